@@ -1,0 +1,60 @@
+-- Domains of curves, and three curves resampled onto the union of theirs. Assumes nothing.
+use Prim.Native.Nat.{ℕ, zero, suc, _+_, _-_, _/_, min, max}
+use mathlib.Core.Bool.{Bool, true, false, _||_, cond}
+use mathlib.Core.List.{List, [], _∷_}
+use lib.Dec.{ltb}
+use lib.ListN.{length}
+use lib.Ieee.{Float}
+use Rattle.nitro.specs.Curve.{Curve, none, constant, samples, mix, sampleAt}
+use Rattle.nitro.specs.Animation.{Axes}
+
+pub data Domain : Type 0 where
+  nowhere : Domain
+  sampled : (start end rate : ℕ) → Domain
+
+module _ {A : Type 0} where
+  unfoldable pub domain : Curve A → Domain
+  domain none = nowhere
+  domain (constant v) = sampled 0 1 1
+  domain (samples start end place size values) = sampled start end ((end - start) / length values)
+
+  -- a list without values has no domain
+  unfoldable pub isEmpty : Curve A → Bool
+  isEmpty none = false
+  isEmpty (constant v) = false
+  isEmpty (samples start end place size []) = true
+  isEmpty (samples start end place size (v ∷ vs)) = false
+
+-- over the curves that exist: least start, greatest end, least rate
+unfoldable pub union : Domain → Domain → Domain
+union nowhere d = d
+union (sampled s e r) nowhere = sampled s e r
+union (sampled s₁ e₁ r₁) (sampled s₂ e₂ r₂) = sampled (min s₁ s₂) (max e₁ e₂) (min r₁ r₂)
+
+-- f, f + rate, ... below end: at most `steps` of them, which is no bound if there are that many frames from f to end
+unfoldable pub framesFrom : ℕ → ℕ → ℕ → ℕ → List ℕ
+framesFrom zero f end rate = []
+framesFrom (suc steps) f end rate =
+    let later = framesFrom steps (f + rate) end rate in
+    cond (ltb f end) (f ∷ later) []
+
+unfoldable pub framesOf : Domain → List ℕ
+framesOf nowhere = []
+framesOf (sampled start end rate) = framesFrom (end - start) start end rate
+
+-- ---- resample_vec3
+
+unfoldable pub axesDomain : Axes → Domain
+axesDomain a = union (union (domain (a .x)) (domain (a .y))) (domain (a .z))
+
+unfoldable pub anyEmpty : Axes → Bool
+anyEmpty a = isEmpty (a .x) || isEmpty (a .y) || isEmpty (a .z)
+
+-- three floats for each frame: x, y, z
+unfoldable pub sampleAxes : Float → Axes → List ℕ → List Float
+sampleAxes default a [] = []
+sampleAxes default a (f ∷ fs) =
+    sampleAt mix default (a .x) f ∷ sampleAt mix default (a .y) f ∷ sampleAt mix default (a .z) f ∷ sampleAxes default a fs
+
+unfoldable pub resampleVec3 : Float → Axes → List Float
+resampleVec3 default a = sampleAxes default a (framesOf (axesDomain a))

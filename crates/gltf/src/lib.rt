@@ -1,0 +1,1 @@
+// Resampling three curves onto their common domain. specs/ has its meaning.

@@ -1,0 +1,23 @@
+-- Nothing new: an example that says `unfolding evaluate` has `answer` computed, with every reader that it is made of. Assumes nothing.
+use mathlib.Core.List.{List}
+use Prim.Native.Nat.{ℕ}
+use lib.Ieee.{round, neg, add, sub, mul, div, ofInt, toBits}
+use Rattle.util.specs.View.{little, littleBytes, view, same}
+use Rattle.util.specs.Reader.{Outcome, ends, run, bind, each, unless}
+use Rattle.util.specs.Place.{within}
+use Rattle.util.specs.Fixed.{fixed, ratio}
+use Rattle.nitro.specs.Name.{equal, named}
+use Rattle.nitro.specs.InfoBlock.{infoBlock}
+use Rattle.nitro.specs.Matrix.{product}
+use Rattle.nitro.specs.Rotation.{placed, turned, pivotMat, basisMat}
+use Rattle.nitro.specs.Curve.{floor, ceil, index, mix, mixMat, between, sampleList, sampleAt, recorded}
+use Rattle.nitro.specs.Animation.{curveWord, number, scalar, axes, pivotOf, basisOf, reference, rotation, animated, object, animation, matrixAt}
+use Rattle.nitro.specs.MaterialAnimation.{channel, materialAnimation, uvMatrixAt}
+use Rattle.nitro.specs.Pattern.{inside, track, pattern, firstLater, choice}
+use Rattle.nitro.specs.Container.{kindOf, stamped, section, entryIn, entry}
+use Rattle.gltf.specs.Curve.{domain, isEmpty, union, framesFrom, framesOf, axesDomain, anyEmpty, sampleAxes, resampleVec3}
+use Rattle.motion.specs.Calls.{Call, Answer, bytesOf, resample, chosenOf, ask, entryOf, reader, answer}
+
+unfoldable pub evaluate : (c : Call) → List ℕ → Outcome (Answer c)
+unfolding round neg add sub mul div ofInt toBits little littleBytes view same ends run bind each unless within fixed ratio equal named infoBlock product placed turned pivotMat basisMat floor ceil index mix mixMat between sampleList sampleAt recorded curveWord number scalar axes pivotOf basisOf reference rotation animated object animation matrixAt channel materialAnimation uvMatrixAt inside track pattern firstLater choice kindOf stamped section entryIn entry domain isEmpty union framesFrom framesOf axesDomain anyEmpty sampleAxes resampleVec3 bytesOf resample chosenOf ask entryOf reader answer
+evaluate c s = answer c s

@@ -1,0 +1,1 @@
+// The public calls. specs/ has what each of them answers.

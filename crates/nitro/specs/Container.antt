@@ -1,0 +1,69 @@
+-- The section: its stamp, its info block and its entries. Assumes nothing.
+use Prim.Native.Nat.{ℕ}
+use mathlib.Core.Bool.{cond}
+use mathlib.Core.List.{List, [], _∷_}
+use lib.Dec.{ltb}
+use lib.ListN.{getD}
+use Rattle.util.specs.View.{little, same}
+use Rattle.util.specs.Reader.{Reader, done, part, bind, _>>=_, _>>_, word, unless, Verdict, answered, denied, tell}
+use Rattle.util.specs.Place.{within}
+use Rattle.nitro.specs.Name.{Name}
+use Rattle.nitro.specs.InfoBlock.{Block, infoBlock}
+use Rattle.nitro.specs.Animation.{Animation, animation}
+use Rattle.nitro.specs.MaterialAnimation.{MaterialAnimation, materialAnimation}
+use Rattle.nitro.specs.Pattern.{Pattern, pattern}
+
+-- the three kinds of section
+pub data Kind : Type 0 where
+  jnt srt pat : Kind
+
+abbrev pub stampOf : Kind → List ℕ
+stampOf jnt = 0x4A ∷ 0x4E ∷ 0x54 ∷ 0x30 ∷ []
+stampOf srt = 0x53 ∷ 0x52 ∷ 0x54 ∷ 0x30 ∷ []
+stampOf pat = 0x50 ∷ 0x41 ∷ 0x54 ∷ 0x30 ∷ []
+
+abbrev pub allKinds : List Kind
+allKinds = jnt ∷ srt ∷ pat ∷ []
+
+-- which of the kinds that a call takes has this stamp; 1 if none has
+unfoldable pub kindOf : List Kind → List ℕ → Verdict Kind
+kindOf [] stamp = denied 1
+kindOf (k ∷ ks) stamp = cond (same 4 stamp (stampOf k)) (answered k) (kindOf ks stamp)
+
+-- the first four bytes, tested before more is read
+unfoldable pub stamped : List Kind → Reader Kind
+stamped takes = part 0 4 (λ bs. tell (kindOf takes bs))
+
+-- the rest of the section's header: the size, which is never used, and the info block, whose datums are entry offsets
+unfoldable pub section : Reader Block
+section = do
+  word 4 4
+  infoBlock 8 4
+
+-- what an entry of each kind holds
+abbrev pub Value : Kind → Type 0
+Value jnt = Animation
+Value srt = MaterialAnimation
+Value pat = Pattern
+
+abbrev pub value : (k : Kind) → Reader (Value k)
+value jnt = animation
+value srt = materialAnimation
+value pat = pattern
+
+-- an entry: its name, its offset in the section, and what it holds, in positions that count from the offset
+pub record Entry (k : Kind) : Type 0 where
+  pub name : Name
+  pub offset : ℕ
+  pub held : Value k
+
+-- entry i of an info block: the index is tested, then the entry is read in the section from its offset onward
+unfoldable pub entryIn : (k : Kind) → ℕ → Block → Reader (Entry k)
+entryIn k i block = do
+  unless (ltb i (block .count)) 9
+  v ← within (little (getD (block .datums) i [])) (value k)
+  done (record { name = getD (block .names) i []; offset = little (getD (block .datums) i []); held = v })
+
+-- entry i, after the stamp
+unfoldable pub entry : (k : Kind) → ℕ → Reader (Entry k)
+entry k i = bind section (entryIn k i)

@@ -1,0 +1,82 @@
+-- Curves, and what they give at a frame. Assumes nothing.
+use Prim.Native.Nat.{ℕ, _+_, _-_, _/_, _%_}
+use mathlib.Core.Bool.{cond}
+use mathlib.Core.List.{List, [], _∷_}
+use lib.Dec.{leb, eqb}
+use lib.IntN.{pos}
+use lib.ListN.{length, getD}
+use lib.Ieee.{Float, binary64, add, sub, mul, div, ofInt}
+use lib.Ieee.Positive.{num, den}
+use Rattle.nitro.specs.declared.matrix.Col3.{Col3}
+use Rattle.nitro.specs.declared.matrix.Mat3.{Mat3}
+use Rattle.nitro.specs.Matrix.{f1, col3}
+
+-- none, a constant, or a list: its start and end frame, where it stands, the bytes per value, and its values
+pub data Curve (A : Type 0) : Type 0 where
+  none : Curve A
+  constant : A → Curve A
+  samples : (start end place size : ℕ) → List A → Curve A
+
+-- ---- the whole numbers below and above a float that has no sign (num / den is its value)
+
+unfoldable pub floor : Float → ℕ
+floor x = num x / den x
+
+-- the same, if x is whole
+unfoldable pub ceil : Float → ℕ
+ceil x = num x / den x + cond (eqb (num x % den x) 0) 0 1
+
+-- ---- the place between two values
+
+abbrev pub whole : ℕ → Float
+whole n = ofInt binary64 (pos n)
+
+-- i: the fraction f = (frame - start) / (end - 1 - start), rounded, times n - 1, rounded again
+unfoldable pub index : ℕ → ℕ → ℕ → ℕ → Float
+index start end frame n = mul binary64 (div binary64 (whole (frame - start)) (whole (end - 1 - start))) (whole (n - 1))
+
+-- lo·(1 - g) + hi·g
+unfoldable pub mix : Float → Float → Float → Float
+mix lo hi g = add binary64 (mul binary64 lo (sub binary64 f1 g)) (mul binary64 hi g)
+
+abbrev pub mixCol : Col3 → Col3 → Float → Col3
+mixCol lo hi g = col3 (mix (lo .x) (hi .x) g) (mix (lo .y) (hi .y) g) (mix (lo .z) (hi .z) g)
+
+-- entry by entry
+unfoldable pub mixMat : Mat3 → Mat3 → Float → Mat3
+mixMat lo hi g = record { c0 = mixCol (lo .c0) (hi .c0) g; c1 = mixCol (lo .c1) (hi .c1) g; c2 = mixCol (lo .c2) (hi .c2) g }
+
+-- ---- Curve::sample_at, for what can be mixed
+
+module _ {A : Type 0} (mixed : A → A → Float → A) where
+  -- between the values next to i, lo below it and hi above it, with g = i - lo
+  unfoldable pub between : A → List A → Float → A
+  between default values i = mixed (getD values (floor i) default) (getD values (ceil i) default) (sub binary64 i (whole (floor i)))
+
+  -- up to start the first value, from end - 1 the last
+  unfoldable pub sampleList : A → ℕ → ℕ → List A → ℕ → A
+  sampleList default start end values frame =
+      let n = length values in
+      cond (leb frame start) (getD values 0 default)
+      (cond (leb (end - 1) frame) (getD values (n - 1) default) (between default values (index start end frame n)))
+
+  -- no curve, or an empty list, gives the default
+  unfoldable pub sampleAt : A → Curve A → ℕ → A
+  sampleAt default none frame = default
+  sampleAt default (constant v) frame = v
+  sampleAt default (samples start end place size []) frame = default
+  sampleAt default (samples start end place size (v ∷ vs)) frame = sampleList default start end (v ∷ vs) frame
+
+-- ---- the record of a curve: of a list its start, end, place, length and bytes per value
+
+pub data Recorded (A : Type 0) : Type 0 where
+  noCurve : Recorded A
+  value : A → Recorded A
+  list : (start end place length size : ℕ) → Recorded A
+
+module _ {A : Type 0} where
+  -- a curve's place counts from its entry, a record's from the section's start
+  unfoldable pub recorded : ℕ → Curve A → Recorded A
+  recorded entry none = noCurve
+  recorded entry (constant v) = value v
+  recorded entry (samples start end place size vs) = list start end (entry + place) (length vs) size

@@ -1,0 +1,17 @@
+-- Names: sixteen bytes. Assumes nothing.
+use Prim.Native.Nat.{ℕ, suc}
+use mathlib.Core.Bool.{Bool, cond}
+use mathlib.Core.List.{List, [], _∷_}
+use Rattle.util.specs.View.{same}
+
+abbrev pub Name : Type 0
+Name = List ℕ
+
+-- names are equal when all sixteen bytes are
+unfoldable pub equal : Name → Name → Bool
+equal a b = same 16 a b
+
+-- which of some names equal a given one: their indexes, the first name having index i
+unfoldable pub named : Name → ℕ → List Name → List ℕ
+named name i [] = []
+named name i (x ∷ xs) = cond (equal name x) (i ∷ named name (suc i) xs) (named name (suc i) xs)

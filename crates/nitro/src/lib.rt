@@ -1,0 +1,2 @@
+// The sections JNT0, SRT0 and PAT0. specs/ has the meaning of each module.
+pub mod matrix;

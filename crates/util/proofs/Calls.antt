@@ -1,0 +1,68 @@
+-- A call reads, and then says something of what it read, without reading more: what a cut leaves of the first, it leaves of the call.
+-- Assumes nothing.
+use Prim.Native.Nat.{ℕ, _+_, max, _≤_, _<_}
+use mathlib.Core.Bool.{Bool, true, false}
+use mathlib.Core.List.{List}
+use mathlib.Core.Path.{_≡_, refl, sym, ap, _∙_}
+use native.Mathlib.Omega.{arith}
+use lib.Dec.{leb}
+use lib.ListN.{length, take, drop}
+use Rattle.util.specs.Reader.{Reader, done, refuse, part, Outcome, accepted, refused, pick, ends, run, bind, Verdict, answered, denied, tell}
+use Rattle.util.specs.Place.{front}
+use Rattle.util.proofs.Cut.{kept, cut}
+
+module _ {A B : Type 0} where
+  -- the rest of a run, on what the first reader found
+  unfoldable pub after : Outcome A → (ℕ → A → Outcome B) → Outcome B
+  after (accepted m a) f = f m a
+  after (refused n) f = refused n
+
+  after-ends : (e n : ℕ) (o : Outcome A) (f : ℕ → A → Outcome B) → after (ends e n o) f ≡ ends e n (after o f)
+  unfolding ends after
+  after-ends e n o f = go (leb e n)
+    where
+      go : (b : Bool) → after (pick b o) f ≡ pick b (after o f)
+      go true = refl
+      go false = refl
+
+  pub run-bind : (r : Reader A) (f : A → Reader B) (s : List ℕ) (m : ℕ) → run (bind r f) s m ≡ after (run r s m) (λ j a. run (f a) s j)
+  unfolding run bind after
+  run-bind (done a) f s m = refl
+  run-bind (refuse n) f s m = refl
+  run-bind (part p n k) f s m =
+      ap (ends (p + n) (length s)) (run-bind (k (take n (drop p s))) f s (max m (p + n))) ∙ sym (after-ends (p + n) (length s) (run (k (take n (drop p s))) s (max m (p + n))) (λ j a. run (f a) s j))
+
+  -- where both run on the same outcome
+  pub run-bind-as : (r : Reader A) (f : A → Reader B) (s : List ℕ) (m : ℕ) (o : Outcome A) → run r s m ≡ o → run (bind r f) s m ≡ after o (λ j a. run (f a) s j)
+  run-bind-as r f s m o e = run-bind r f s m ∙ ap (λ (x : Outcome A). after x (λ j a. run (f a) s j)) e
+
+  -- an accepted run had its first reader accepted
+  pub accepted-first : (r : Reader A) (f : A → Reader B) (s : List ℕ) (m m' : ℕ) (b : B) → run (bind r f) s m ≡ accepted m' b
+      → (j : ℕ) × (a : A) × (run r s m ≡ accepted j a) × (run (f a) s j ≡ accepted m' b)
+  unfolding after
+  accepted-first r f s m m' b e = go (run r s m) refl (sym (run-bind r f s m) ∙ e)
+    where
+      go : (o : Outcome A) → run r s m ≡ o → after o (λ j a. run (f a) s j) ≡ accepted m' b
+          → (j : ℕ) × (a : A) × (run r s m ≡ accepted j a) × (run (f a) s j ≡ accepted m' b)
+      go (accepted j a) q w = (j, a, q, w)
+      go (refused n) q w = let z : _≡_ {A = ℕ} 0 1 = cc in absurd (omega arith)
+
+module _ {B : Type 0} where
+  silent : (v : Verdict B) (s s' : List ℕ) (m : ℕ) → run (tell v) s m ≡ run (tell v) s' m
+  unfolding run
+  silent (answered b) s s' m = refl
+  silent (denied n) s s' m = refl
+
+module _ {A B : Type 0} (r : Reader A) (f : A → Verdict B) (s : List ℕ) (m reach : ℕ) (a : A) (whole : run r s m ≡ accepted reach a) where
+  -- from the reach on the call answers, or refuses, as on the uncut section
+  pub call-kept : (k : ℕ) (t : List ℕ) → reach ≤ k → run (bind r (λ x. tell (f x))) (front k s t) m ≡ run (bind r (λ x. tell (f x))) s m
+  unfolding after
+  call-kept k t h =
+      run-bind-as r (λ x. tell (f x)) (front k s t) m (accepted reach a) (kept r s m reach a whole k t h)
+      ∙ (silent (f a) (front k s t) s reach
+      ∙ sym (run-bind-as r (λ x. tell (f x)) s m (accepted reach a) whole))
+
+  -- before it the front is too short for the call too
+  pub call-cut : (k : ℕ) → m ≤ k → k < reach → run (bind r (λ x. tell (f x))) (take k s) m ≡ refused 2
+  unfolding after
+  call-cut k l h = run-bind-as r (λ x. tell (f x)) (take k s) m (refused 2) (cut r s m reach a whole k l h)

@@ -1,0 +1,5 @@
+pub mod View
+pub mod Reader
+pub mod Place
+pub mod Bits
+pub mod Fixed
