@@ -13,7 +13,7 @@ use Rattle.util.proofs.Calls as util-calls
 use Rattle.util.proofs.Calls.{after, run-bind-as, accepted-first}
 use Rattle.nitro.specs.Name.{Name, named}
 use Rattle.nitro.specs.Container.{Kind, allKinds, kindOf, stamped, section, Entry, entryIn, entry}
-use Rattle.nitro.proofs.Container.{taken}
+use Rattle.nitro.proofs.ContainerLaws.{taken}
 use Rattle.motion.specs.Calls.{Call, check, find, on, Answer, EntryRecord, Query, recordOf, entryOf, ask, reader, answer}
 use Rattle.motion.specs.Demand3.{On, Demand3}
 

@@ -10,17 +10,19 @@ use lib.Seq.{sets}
 use lib.Ieee.{Float, binary64, toBits}
 use Rattle.util.specs.View.{littleBytes}
 use Rattle.util.specs.Reader.{Reader, done, bind, Outcome, accepted, refused, run, Verdict, answered, denied, given, tell}
-use Rattle.nitro.specs.declared.matrix.Mat3.{Mat3}
-use Rattle.nitro.specs.declared.matrix.Col4.{Col4}
-use Rattle.nitro.specs.declared.matrix.Mat4.{Mat4}
-use Rattle.nitro.specs.Matrix.{f0, f1}
+use Rattle.matrix.specs.declared.Mat3.{Mat3}
+use Rattle.matrix.specs.declared.Col4.{Col4}
+use Rattle.matrix.specs.declared.Mat4.{Mat4}
+use Rattle.matrix.specs.Matrix.{f0, f1}
 use Rattle.nitro.specs.Name.{Name, named}
 use Rattle.nitro.specs.Curve.{Curve, none, Recorded, recorded}
 use Rattle.nitro.specs.Animation.{Axes, Object, noAxes, matrixAt}
 use Rattle.nitro.specs.MaterialAnimation.{uvMatrixAt}
 use Rattle.nitro.specs.Pattern.{Key, Track, choice}
 use Rattle.nitro.specs.Container.{Kind, jnt, srt, pat, allKinds, stamped, section, Entry, entry}
-use Rattle.gltf.specs.Curve.{Domain, nowhere, sampled, axesDomain, anyEmpty, framesOf, resampleVec3}
+use Rattle.gltf.specs.declared.curve.CurveDomain.{CurveDomain}
+use Rattle.gltf.specs.declared.curve.CurveDomain.the-variants.{None, Sampled}
+use Rattle.gltf.specs.Curve.{axesDomain, anyEmpty, framesOf, resampleVec3}
 
 -- ---- what is asked of an entry
 
@@ -115,9 +117,9 @@ columnBytes c = floatBytes (c .x) ++ (floatBytes (c .y) ++ (floatBytes (c .z) ++
 unfoldable pub bytesOf : Mat4 → List ℕ
 bytesOf m = columnBytes (m .c0) ++ (columnBytes (m .c1) ++ (columnBytes (m .c2) ++ columnBytes (m .c3)))
 
-abbrev pub spanOf : Domain → Span
-spanOf nowhere = noSpan
-spanOf (sampled start end rate) = span start end
+abbrev pub spanOf : CurveDomain → Span
+spanOf None = noSpan
+spanOf (Sampled start end rate) = span start end
 
 -- 10 for an empty list among the three curves, then 11 if place + 3 times the frames exceeds the slice; then three floats per
 -- frame from the place on, all other elements as they were

@@ -8,10 +8,10 @@ use Rattle.util.specs.Place.{within}
 use Rattle.util.specs.Fixed.{fixed, ratio}
 use Rattle.nitro.specs.Name.{equal, named}
 use Rattle.nitro.specs.InfoBlock.{infoBlock}
-use Rattle.nitro.specs.Matrix.{product}
+use Rattle.matrix.specs.Matrix.{product, trs}
 use Rattle.nitro.specs.Rotation.{placed, turned, pivotMat, basisMat}
 use Rattle.nitro.specs.Curve.{floor, ceil, index, mix, mixMat, between, sampleList, sampleAt, recorded}
-use Rattle.nitro.specs.Animation.{curveWord, number, scalar, axes, pivotOf, basisOf, reference, rotation, animated, object, animation, matrixAt}
+use Rattle.nitro.specs.Animation.{curveWord, number, scalar, axes, pivotOf, basisOf, reference, rotation, animated, object, animation, axesAt, matrixAt}
 use Rattle.nitro.specs.MaterialAnimation.{channel, materialAnimation, uvMatrixAt}
 use Rattle.nitro.specs.Pattern.{inside, track, pattern, firstLater, choice}
 use Rattle.nitro.specs.Container.{kindOf, stamped, section, entryIn, entry}
@@ -19,5 +19,5 @@ use Rattle.gltf.specs.Curve.{domain, isEmpty, union, framesFrom, framesOf, axes
 use Rattle.motion.specs.Calls.{Call, Answer, bytesOf, resample, chosenOf, ask, entryOf, reader, answer}
 
 unfoldable pub evaluate : (c : Call) → List ℕ → Outcome (Answer c)
-unfolding round neg add sub mul div ofInt toBits little littleBytes view same ends run bind each unless within fixed ratio equal named infoBlock product placed turned pivotMat basisMat floor ceil index mix mixMat between sampleList sampleAt recorded curveWord number scalar axes pivotOf basisOf reference rotation animated object animation matrixAt channel materialAnimation uvMatrixAt inside track pattern firstLater choice kindOf stamped section entryIn entry domain isEmpty union framesFrom framesOf axesDomain anyEmpty sampleAxes resampleVec3 bytesOf resample chosenOf ask entryOf reader answer
+unfolding round neg add sub mul div ofInt toBits little littleBytes view same ends run bind each unless within fixed ratio equal named infoBlock product trs placed turned pivotMat basisMat floor ceil index mix mixMat between sampleList sampleAt recorded curveWord number scalar axes pivotOf basisOf reference rotation animated object animation axesAt matrixAt channel materialAnimation uvMatrixAt inside track pattern firstLater choice kindOf stamped section entryIn entry domain isEmpty union framesFrom framesOf axesDomain anyEmpty sampleAxes resampleVec3 bytesOf resample chosenOf ask entryOf reader answer
 evaluate c s = answer c s

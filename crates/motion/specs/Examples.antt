@@ -8,7 +8,7 @@ use lib.ListN.{take, replicate}
 use lib.Ieee.{Float, fin, neg}
 use Rattle.util.specs.View.{littleBytes}
 use Rattle.util.specs.Reader.{accepted, refused}
-use Rattle.nitro.specs.Matrix.{f0, f1}
+use Rattle.matrix.specs.Matrix.{f0, f1}
 use Rattle.nitro.specs.Curve.{list}
 use Rattle.nitro.specs.Container.{jnt, srt, pat, stampOf}
 use Rattle.motion.specs.Calls.{check, on, translationCurve, resampleTranslation, resampleScale, chosen, channelCurve, noSpan, span, EntryRecord, answer}

@@ -7,11 +7,12 @@ use lib.ListN.{length, take}
 use lib.Ieee.{Float, round, neg, sub, mul}
 use Rattle.util.specs.Reader.{accepted, refused}
 use Rattle.util.specs.Fixed.{fix1-19-12, fix1-3-12, fix1-10-5, fixed, ratio, Exactly}
-use Rattle.nitro.specs.Matrix.{f0, f1, col3}
+use Rattle.matrix.specs.Matrix.{f0, f1, col3}
 use Rattle.nitro.specs.Rotation.{pivotMat, basisMat}
 use Rattle.nitro.specs.Curve.{Curve, samples}
 use Rattle.nitro.specs.Pattern.{Key, firstLater, choice}
-use Rattle.gltf.specs.Curve.{domain, sampled, framesFrom, framesOf}
+use Rattle.gltf.specs.declared.curve.CurveDomain.the-variants.{Sampled}
+use Rattle.gltf.specs.Curve.{domain, framesFrom, framesOf}
 use Rattle.motion.specs.Calls.{check, answer}
 use Rattle.motion.specs.Evaluate.{evaluate}
 
@@ -53,7 +54,7 @@ pub record Pinned : Type 0 where
   pub P4 : (flags : ℕ) (b : Float) → pivotMat 9 flags f1 b ≡ record { c0 = col3 (neg f1) f0 f0; c1 = col3 f0 f0 f0; c2 = col3 f0 f0 f0 }
   pub P5 : Exactly (basisMat 0x7FF8 0 0 0 0x7FF8 .c2 .z) (pos 16769025) 16777216
   pub P6 : Exactly (basisMat 0 0 0 0 7 .c1 .z) (negsuc 0) 1 × (basisMat 0 0 0 0 6 .c1 .z ≡ f0)
-  pub P7 : (domain five ≡ sampled 0 11 2) × (length (framesOf (domain five)) ≡ 6)
+  pub P7 : (domain five ≡ Sampled 0 11 2) × (length (framesOf (domain five)) ≡ 6)
   pub P8 : (keyAt 0 ≡ 0) × (keyAt 2 ≡ 0) × (keyAt 5 ≡ 1) × (keyAt 9 ≡ 2)
   pub P9 : (answer (check 0) walk ≡ accepted 86 (record { name = walkName; frames = 12; count = 1 })) × (answer (check 0) (take 85 walk) ≡ refused 2)
 

@@ -1,1 +1,5 @@
-pub mod Container
+pub mod ContainerLaws
+pub mod FloorLaws
+pub mod IndexLaws
+pub mod RotationLaws
+pub mod FiniteLaws

@@ -8,9 +8,10 @@ use Rattle.util.specs.View.{little, wordAt, same}
 use Rattle.util.specs.Reader.{Reader, done, part, _>>=_, _>>_, bytes, word, list, each, unless}
 use Rattle.util.specs.Bits.{bits, bit}
 use Rattle.util.specs.Fixed.{fix1-19-12, fix1-3-12, fixed}
-use Rattle.nitro.specs.declared.matrix.Mat3.{Mat3}
-use Rattle.nitro.specs.declared.matrix.Mat4.{Mat4}
-use Rattle.nitro.specs.Matrix.{f0, f1, identity3, translation4, rotation4, scale4, product}
+use Rattle.matrix.specs.declared.Col3.{Col3}
+use Rattle.matrix.specs.declared.Mat3.{Mat3}
+use Rattle.matrix.specs.declared.Mat4.{Mat4}
+use Rattle.matrix.specs.Matrix.{f0, f1, col3, identity3, trs}
 use Rattle.nitro.specs.Rotation.{pivotMat, basisMat}
 use Rattle.nitro.specs.Curve.{Curve, none, constant, samples, mix, mixMat, sampleAt}
 
@@ -166,13 +167,10 @@ animation = do
 
 -- ---- TRSCurves::sample_at
 
--- (translation · rotation) · scale
+-- the values of three curves at a frame
+unfoldable pub axesAt : Float → Axes → ℕ → Col3
+axesAt default a frame = col3 (sampleAt mix default (a .x) frame) (sampleAt mix default (a .y) frame) (sampleAt mix default (a .z) frame)
+
+-- (translation · rotation) · scale, with the defaults 0, identity and 1
 unfoldable pub matrixAt : Object → ℕ → Mat4
-matrixAt o frame =
-    let t = o .translation in
-    let s = o .scale in
-    product
-    (product
-    (translation4 (sampleAt mix f0 (t .x) frame) (sampleAt mix f0 (t .y) frame) (sampleAt mix f0 (t .z) frame))
-    (rotation4 (sampleAt mixMat identity3 (o .rotation) frame)))
-    (scale4 (sampleAt mix f1 (s .x) frame) (sampleAt mix f1 (s .y) frame) (sampleAt mix f1 (s .z) frame))
+matrixAt o frame = trs (axesAt f0 (o .translation) frame) (sampleAt mixMat identity3 (o .rotation) frame) (axesAt f1 (o .scale) frame)

@@ -7,9 +7,10 @@ use lib.IntN.{pos}
 use lib.ListN.{length, getD}
 use lib.Ieee.{Float, binary64, add, sub, mul, div, ofInt}
 use lib.Ieee.Positive.{num, den}
-use Rattle.nitro.specs.declared.matrix.Col3.{Col3}
-use Rattle.nitro.specs.declared.matrix.Mat3.{Mat3}
-use Rattle.nitro.specs.Matrix.{f1, col3}
+use Rattle.matrix.specs.declared.Col3.{Col3}
+use Rattle.matrix.specs.declared.Mat3.{Mat3}
+use Rattle.nitro.specs.declared.curve.Spot.{Spot}
+use Rattle.matrix.specs.Matrix.{f1, col3}
 
 -- none, a constant, or a list: its start and end frame, where it stands, the bytes per value, and its values
 pub data Curve (A : Type 0) : Type 0 where
@@ -35,6 +36,10 @@ whole n = ofInt binary64 (pos n)
 unfoldable pub index : ℕ → ℕ → ℕ → ℕ → Float
 index start end frame n = mul binary64 (div binary64 (whole (frame - start)) (whole (end - 1 - start))) (whole (n - 1))
 
+-- the places around i: lo below it, hi above it, and g = i - lo
+abbrev pub spotOf : Float → Spot
+spotOf i = record { lo = floor i; hi = ceil i; g = sub binary64 i (whole (floor i)) }
+
 -- lo·(1 - g) + hi·g
 unfoldable pub mix : Float → Float → Float → Float
 mix lo hi g = add binary64 (mul binary64 lo (sub binary64 f1 g)) (mul binary64 hi g)
@@ -49,9 +54,9 @@ mixMat lo hi g = record { c0 = mixCol (lo .c0) (hi .c0) g; c1 = mixCol (lo .c1) 
 -- ---- Curve::sample_at, for what can be mixed
 
 module _ {A : Type 0} (mixed : A → A → Float → A) where
-  -- between the values next to i, lo below it and hi above it, with g = i - lo
+  -- between the values next to i
   unfoldable pub between : A → List A → Float → A
-  between default values i = mixed (getD values (floor i) default) (getD values (ceil i) default) (sub binary64 i (whole (floor i)))
+  between default values i = let p = spotOf i in mixed (getD values (p .lo) default) (getD values (p .hi) default) (p .g)
 
   -- up to start the first value, from end - 1 the last
   unfoldable pub sampleList : A → ℕ → ℕ → List A → ℕ → A

@@ -1,9 +1,9 @@
 pub mod Name
 pub mod InfoBlock
-pub mod Matrix
 pub mod Rotation
 pub mod Curve
 pub mod Animation
 pub mod MaterialAnimation
 pub mod Pattern
 pub mod Container
+pub mod Finite

@@ -8,10 +8,10 @@ use lib.Ieee.{Float}
 use Rattle.util.specs.View.{little, wordAt, view}
 use Rattle.util.specs.Reader.{Reader, done, part, _>>=_, _>>_, bytes, word, each}
 use Rattle.util.specs.Fixed.{fix1-10-5, fixed}
-use Rattle.nitro.specs.declared.matrix.Mat4.{Mat4}
+use Rattle.matrix.specs.declared.Mat4.{Mat4}
 use Rattle.nitro.specs.Name.{Name}
 use Rattle.nitro.specs.InfoBlock.{infoBlock}
-use Rattle.nitro.specs.Matrix.{f0, translation4}
+use Rattle.matrix.specs.Matrix.{f0, translation4}
 use Rattle.nitro.specs.Curve.{Curve, none, samples, mix, sampleAt}
 
 pub record MaterialAnimation : Type 0 where

@@ -2,14 +2,14 @@
 use Prim.Native.Nat.{ℕ, _+_, _*_}
 use mathlib.Core.Bool.{cond}
 use mathlib.Core.List.{List, [], _∷_}
-use lib.Dec.{ltb, eqb}
+use lib.Dec.{ltb}
 use lib.ListN.{getD}
 use lib.Ieee.{Float, neg}
 use Rattle.util.specs.Bits.{bits, bit}
 use Rattle.util.specs.Fixed.{fix1-0-12, fixed}
-use Rattle.nitro.specs.declared.matrix.Col3.{Col3}
-use Rattle.nitro.specs.declared.matrix.Mat3.{Mat3}
-use Rattle.nitro.specs.Matrix.{f0, f1, col3, mat3, cross}
+use Rattle.matrix.specs.declared.Col3.{Col3}
+use Rattle.matrix.specs.declared.Mat3.{Mat3}
+use Rattle.matrix.specs.Matrix.{f0, f1, col3, cross}
 
 -- ---- pivot_mat
 
@@ -31,6 +31,15 @@ rows =
     ∷ (A ∷ B ∷ Z ∷ C ∷ D ∷ Z ∷ Z ∷ Z ∷ O ∷ [])
     ∷ []
 
+-- the letter that a place has in the code's table
+abbrev pub letter : Place → ℕ
+letter Z = 46
+letter O = 111
+letter A = 97
+letter B = 98
+letter C = 99
+letter D = 100
+
 unfoldable pub placed : ℕ → ℕ → Place
 placed select k = getD (getD rows select []) k Z
 
@@ -46,15 +55,23 @@ put B o a b c d = b
 put C o a b c d = c
 put D o a b c d = d
 
--- -a in the first entry
-abbrev pub onlyFirst : Float → ℕ → Float
-onlyFirst a k = cond (eqb k 0) (neg a) f0
+-- three entries of the matrix from k on
+abbrev pub placedCol : ℕ → ℕ → Float → Float → Float → Float → Float → Col3
+placedCol select k o a b c d = col3 (put (placed select k) o a b c d) (put (placed select (k + 1)) o a b c d) (put (placed select (k + 2)) o a b c d)
 
+-- a select of 9..15: -a in the first entry
+abbrev pub onlyFirst : Float → Mat3
+onlyFirst a = record { c0 = col3 (neg a) f0 f0; c1 = col3 f0 f0 f0; c2 = col3 f0 f0 f0 }
+
+-- o is 1, c is b, d is a, each negated by its bit of `flags`
 unfoldable pub pivotMat : ℕ → ℕ → Float → Float → Mat3
 pivotMat select flags a b =
+    let o = turned flags 0 f1 in
+    let c = turned flags 1 b in
+    let d = turned flags 2 a in
     cond (ltb select 9)
-    (mat3 (λ k. put (placed select k) (turned flags 0 f1) a b (turned flags 1 b) (turned flags 2 a)))
-    (mat3 (onlyFirst a))
+    (record { c0 = placedCol select 0 o a b c d; c1 = placedCol select 3 o a b c d; c2 = placedCol select 6 o a b c d })
+    (onlyFirst a)
 
 -- ---- basis_mat
 

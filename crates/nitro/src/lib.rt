@@ -1,2 +1,3 @@
 // The sections JNT0, SRT0 and PAT0. specs/ has the meaning of each module.
-pub mod matrix;
+pub mod curve;
+pub mod rotation;

@@ -1,5 +1,9 @@
 pub mod Cut
 pub mod Place
 pub mod Calls
-pub mod Fixed
-pub mod View
+pub mod BitsLaws
+pub mod RoundLaws
+pub mod FixedLaws
+pub mod WithinLaws
+pub mod ViewLaws
+pub mod All

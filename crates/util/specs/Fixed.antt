@@ -5,6 +5,7 @@ use lib.Dec.{ltb}
 use lib.IntN.{ℤ, pos, negsuc}
 use lib.Ieee.{Float, binary64, round, minus}
 use lib.Ieee.Exact.{HasValue}
+use Rattle.util.specs.declared.fixed.Limits.{Limits}
 
 pub record Fix : Type 0 where
   pub whole : ℕ
@@ -35,9 +36,13 @@ unfoldable pub ratio : ℤ → ℕ → Float
 ratio (pos n) d = round binary64 false n d
 ratio (negsuc n) d = round binary64 true (suc n) d
 
+-- v, or v - 2·sign from `sign` on: what the bits v are worth if the highest of them weighs -sign
+abbrev pub twos : ℕ → ℕ → ℤ
+twos sign v = cond (ltb v sign) (pos v) (minus v (sign + sign))
+
 -- the low bits of x as a two's-complement integer
 abbrev pub integer : Fix → ℕ → ℤ
-integer f x = let v = x % 2 ^ width f in cond (ltb v (half f)) (pos v) (minus v (2 ^ width f))
+integer f x = twos (half f) (x % 2 ^ width f)
 
 -- .. divided by a power of two
 unfoldable pub fixed : Fix → ℕ → Float
@@ -49,6 +54,9 @@ least f = ratio (negsuc (half f - 1)) (2 ^ f .fraction)
 
 unfoldable pub greatest : Fix → Float
 greatest f = ratio (pos (half f - 1)) (2 ^ f .fraction)
+
+abbrev pub limitsOf : Fix → Limits
+limitsOf f = record { bits = width f; least = least f; greatest = greatest f }
 
 -- the float x is z / d, with nothing rounded
 abbrev pub Exactly : Float → ℤ → ℕ → Type 0

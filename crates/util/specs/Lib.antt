@@ -3,3 +3,4 @@ pub mod Reader
 pub mod Place
 pub mod Bits
 pub mod Fixed
+pub mod Within

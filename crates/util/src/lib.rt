@@ -1,1 +1,4 @@
-// Readers of a section, the words of a slice, bit fields and number formats: specs/ has their meanings, proofs/ their laws.
+// Bit fields, number formats and the words of a slice. specs/ has their meanings, the readers of a section among them.
+pub mod bits;
+pub mod fixed;
+pub mod view;

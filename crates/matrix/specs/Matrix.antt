@@ -1,12 +1,11 @@
 -- Matrices of floats, column by column. Assumes nothing.
-use Prim.Native.Nat.{ℕ}
 use mathlib.Core.Bool.{false}
 use lib.IntN.{pos}
 use lib.Ieee.{Float, fin, binary64, add, sub, mul}
-use Rattle.nitro.specs.declared.matrix.Col3.{Col3}
-use Rattle.nitro.specs.declared.matrix.Mat3.{Mat3}
-use Rattle.nitro.specs.declared.matrix.Col4.{Col4}
-use Rattle.nitro.specs.declared.matrix.Mat4.{Mat4}
+use Rattle.matrix.specs.declared.Col3.{Col3}
+use Rattle.matrix.specs.declared.Mat3.{Mat3}
+use Rattle.matrix.specs.declared.Col4.{Col4}
+use Rattle.matrix.specs.declared.Mat4.{Mat4}
 
 -- +0 and 1
 abbrev pub f0 : Float
@@ -20,10 +19,6 @@ col3 x y z = record { x = x; y = y; z = z }
 
 abbrev pub col4 : Float → Float → Float → Float → Col4
 col4 x y z w = record { x = x; y = y; z = z; w = w }
-
--- from its nine entries, counted column by column
-abbrev pub mat3 : (ℕ → Float) → Mat3
-mat3 e = record { c0 = col3 (e 0) (e 1) (e 2); c1 = col3 (e 3) (e 4) (e 5); c2 = col3 (e 6) (e 7) (e 8) }
 
 abbrev pub identity3 : Mat3
 identity3 = record { c0 = col3 f1 f0 f0; c1 = col3 f0 f1 f0; c2 = col3 f0 f0 f1 }
@@ -58,6 +53,10 @@ column m v =
 
 unfoldable pub product : Mat4 → Mat4 → Mat4
 product m n = record { c0 = column m (n .c0); c1 = column m (n .c1); c2 = column m (n .c2); c3 = column m (n .c3) }
+
+-- (translation · rotation) · scale
+unfoldable pub trs : Col3 → Mat3 → Col3 → Mat4
+trs t r s = product (product (translation4 (t .x) (t .y) (t .z)) (rotation4 r)) (scale4 (s .x) (s .y) (s .z))
 
 -- p q - r s
 abbrev pub minor : Float → Float → Float → Float → Float

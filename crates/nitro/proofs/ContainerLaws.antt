@@ -9,7 +9,7 @@ use lib.ListN.{drop}
 use Rattle.util.specs.View.{same}
 use Rattle.util.specs.Reader.{run, bind, Verdict, answered, denied}
 use Rattle.util.specs.Place.{within, moved, raised}
-use Rattle.util.proofs.View.{same-like}
+use Rattle.util.proofs.ViewLaws.{same-like}
 use Rattle.util.proofs.Place.{run-within}
 use Rattle.nitro.specs.Animation.{animation}
 use Rattle.nitro.specs.MaterialAnimation.{materialAnimation}

@@ -1,0 +1,18 @@
+-- `util::fixed::Fix1_0_12::read` meets its contract. Assumes nothing.
+use mathlib.Core.Path.{refl}
+use lib.Dec.{lit≤}
+use lib.Ieee.{ofBits}
+use Rattle.util.specs.Fixed.{fix1-0-12}
+use Rattle.util.proofs.FixedLaws.{masked, read-law}
+use Rattle.util.proofs.fixed.Fix1_0_12.read.Statement.{statement}
+use Rattle.util.proofs.fixed.Fix1_0_12.read.Tie as tie
+
+signed-requires : tie.Need-signed-requires
+signed-requires c κs = masked fix1-0-12 (c .args .x)
+
+returns : tie.Need-returns
+unfolding ofBits
+returns c = read-law fix1-0-12 11 (c .before .args .x) (c .signed .result) (lit≤ tt) refl (c .signed .ensures)
+
+pub read-spec : {M : Type 1} → statement M
+read-spec = tie.close (tie.spec signed-requires returns)
