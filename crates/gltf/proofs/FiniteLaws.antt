@@ -3,7 +3,7 @@ use Prim.Native.Nat.{ℕ}
 use mathlib.Core.List.{List, [], _∷_}
 use lib.Ieee.{Float}
 use Rattle.util.proofs.All.{Each}
-use Rattle.nitro.specs.Animation.{Axes}
+use Rattle.animation.specs.Animation.{Axes}
 use Rattle.nitro.specs.Finite.{Finite}
 use Rattle.nitro.proofs.FiniteLaws.{Small, below-finite, SizedAxes, axes-sized}
 use Rattle.gltf.specs.Curve.{framesOf, axesDomain, sampleAxes, resampleVec3}

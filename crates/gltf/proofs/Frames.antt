@@ -10,8 +10,8 @@ use borrow.Author.Tests.{ltb-true, ltb-false}
 use lib.Dec.{ltb}
 use lib.ListN.{length}
 use Rattle.util.proofs.Cut.{le-or-lt}
-use Rattle.gltf.specs.declared.curve.CurveDomain.{CurveDomain}
-use Rattle.gltf.specs.declared.curve.CurveDomain.the-variants.{None, Sampled}
+use Rattle.gltf.specs.declared.CurveDomain.{CurveDomain}
+use Rattle.gltf.specs.declared.CurveDomain.the-variants.{None, Sampled}
 use Rattle.gltf.specs.Curve.{union, framesFrom, framesOf, Stepped}
 
 -- the distance to the end over the rate, rounded up

@@ -5,10 +5,10 @@ use mathlib.Core.List.{List, [], _∷_}
 use lib.Dec.{ltb}
 use lib.ListN.{length}
 use lib.Ieee.{Float}
-use Rattle.gltf.specs.declared.curve.CurveDomain.{CurveDomain}
-use Rattle.gltf.specs.declared.curve.CurveDomain.the-variants.{None, Sampled}
-use Rattle.nitro.specs.Curve.{Curve, none, constant, samples}
-use Rattle.nitro.specs.Animation.{Axes, axesAt}
+use Rattle.gltf.specs.declared.CurveDomain.{CurveDomain}
+use Rattle.gltf.specs.declared.CurveDomain.the-variants.{None, Sampled}
+use Rattle.curve.specs.Curve.{Curve, none, constant, samples}
+use Rattle.animation.specs.Animation.{Axes, axesAt}
 
 module _ {A : Type 0} where
   unfoldable pub domain : Curve A → CurveDomain

@@ -5,16 +5,16 @@ use mathlib.Core.Logic.{⊎-elim}
 use mathlib.Core.Path.{_≡_, refl, sym, ap, subst, _∙_}
 use native.Mathlib.Omega.{arith}
 use lib.ListN.{length, take, length-append, length-take}
-use Rattle.util.specs.Reader.{done, accepted, refused, run, bind, Verdict, answered, denied, tell}
+use Rattle.util.specs.Reader.{done, accepted, refused, run, bind, answered, denied, tell}
 use Rattle.util.specs.Place.{front}
 use Rattle.util.proofs.Cut as util-cut
-use Rattle.util.proofs.Cut.{had, had-part, grows, same-part}
+use Rattle.util.proofs.Cut.{had, grows, same-part}
 use Rattle.util.proofs.Calls as util-calls
 use Rattle.util.proofs.Calls.{after, run-bind-as, accepted-first}
-use Rattle.nitro.specs.Name.{Name, named}
-use Rattle.nitro.specs.Container.{Kind, allKinds, kindOf, stamped, section, Entry, entryIn, entry}
-use Rattle.nitro.proofs.ContainerLaws.{taken}
-use Rattle.motion.specs.Calls.{Call, check, find, on, Answer, EntryRecord, Query, recordOf, entryOf, ask, reader, answer}
+use Rattle.info_block.specs.Name.{Name, named}
+use Rattle.nitro.specs.Container.{Kind, allKinds, kindOf, stamped, section, Entry, entryIn, entry, EntryRecord, recordOf, entryOf}
+use Rattle.nitro.proofs.ContainerLaws.{taken, stamp-of, stamp-taken, stamp-refused}
+use Rattle.motion.specs.Calls.{Call, check, find, on, Answer, Query, ask, reader, answer}
 use Rattle.motion.specs.Demand3.{On, Demand3}
 
 -- what an accepted entry says of its section: the stamp's kind, and the entry read whole behind it
@@ -26,44 +26,29 @@ record Whole (s : List ℕ) (i r : ℕ) : Type 0 where
   read : run (entry kind i) s 4 ≡ accepted r held
   far : 4 ≤ r
 
-told : {A : Type 0} (v : Verdict A) (s : List ℕ) (m j : ℕ) (a : A) → run (tell v) s m ≡ accepted j a → (v ≡ answered a) × (m ≡ j)
-unfolding run
-told (answered b) s m j a e = (cc, cc)
-told (denied n) s m j a e = let z : _≡_ {A = ℕ} 0 1 = cc in absurd (omega arith)
-
 whole : (s : List ℕ) (i r : ℕ) (e : EntryRecord) → answer (check i) s ≡ accepted r e → Whole s i r
 unfolding answer reader stamped run
 whole s i r e h =
     let w = accepted-first (stamped allKinds) (λ k. bind (entry k i) (λ x. done (recordOf k x))) s 0 r e h in
-    let p = had-part 4 (length s) (run (tell (kindOf allKinds (take 4 s))) s 4) (w .0) (w .1) (w .2) in
-    let q = told (kindOf allKinds (take 4 s)) s 4 (w .0) (w .1) (p .1) in
+    let p = stamp-of s (w .0) (w .1) (w .2) in
     let v = accepted-first (entry (w .1) i) (λ x. done (recordOf (w .1) x)) s (w .0) r e (w .3) in
-    let j : w .0 ≡ 4 = sym (q .1) in
+    let j : w .0 ≡ 4 = sym (p .2) in
     let l : v .0 ≡ r = cc in
     let z : run (entry (w .1) i) s 4 ≡ accepted r (v .1) = subst (λ (m : ℕ). run (entry (w .1) i) s m ≡ accepted r (v .1)) j (v .2 ∙ ap (λ (m : ℕ). accepted m (v .1)) l) in
-    record { kind = w .1; held = v .1; room = p .0; stamp = q .0; read = z; far = grows (entry (w .1) i) s 4 r (v .1) z }
+    record { kind = w .1; held = v .1; room = p .0; stamp = p .1; read = z; far = grows (entry (w .1) i) s 4 r (v .1) z }
 
 module _ (s : List ℕ) (i r : ℕ) (w : Whole s i r) where
-  -- on a section that begins with the same stamp: the stamp is the kind's, or the call refuses it
-  stamp-taken : (s' : List ℕ) → 4 ≤ length s' → take 4 s' ≡ take 4 s → (k : Kind) → kindOf (k ∷ []) (take 4 s) ≡ answered k → run (stamped (k ∷ [])) s' 0 ≡ accepted 4 k
-  unfolding stamped run
-  stamp-taken s' l e k q = had _ _ _ _ l (rw (e, q) refl)
-
-  stamp-refused : (s' : List ℕ) → 4 ≤ length s' → take 4 s' ≡ take 4 s → (k : Kind) → kindOf (k ∷ []) (take 4 s) ≡ denied 1 → run (stamped (k ∷ [])) s' 0 ≡ refused 1
-  unfolding stamped run
-  stamp-refused s' l e k q = had _ _ _ _ l (rw (e, q) refl)
-
   -- a call of another kind refuses any section with that stamp
   other-kind : (s' : List ℕ) → 4 ≤ length s' → take 4 s' ≡ take 4 s → (k : Kind) (q : Query k) → kindOf (k ∷ []) (take 4 s) ≡ denied 1 → answer (on k i q) s' ≡ refused 1
   unfolding answer reader entryOf after
   other-kind s' l e k q d =
       run-bind-as (entryOf k i) (λ x. tell (ask q x)) s' 0 (refused 1)
-      (run-bind-as (stamped (k ∷ [])) (λ _. entry k i) s' 0 (refused 1) (stamp-refused s' l e k d))
+      (run-bind-as (stamped (k ∷ [])) (λ _. entry k i) s' 0 (refused 1) (stamp-refused s' l k (ap (kindOf (k ∷ [])) e ∙ d)))
 
   -- the entry, with its own stamp
   own-kind : kindOf (w .kind ∷ []) (take 4 s) ≡ answered (w .kind) → run (entryOf (w .kind) i) s 0 ≡ accepted r (w .held)
   unfolding entryOf after
-  own-kind a = run-bind-as (stamped (w .kind ∷ [])) (λ _. entry (w .kind) i) s 0 (accepted 4 (w .kind)) (stamp-taken s (w .room) refl (w .kind) a) ∙ w .read
+  own-kind a = run-bind-as (stamped (w .kind ∷ [])) (λ _. entry (w .kind) i) s 0 (accepted 4 (w .kind)) (stamp-taken s (w .room) (w .kind) a) ∙ w .read
 
   module _ (k : ℕ) (t : List ℕ) where
     front-room : r ≤ k → 4 ≤ length (front k s t)

@@ -14,14 +14,14 @@ use Rattle.matrix.specs.declared.Mat3.{Mat3}
 use Rattle.matrix.specs.declared.Col4.{Col4}
 use Rattle.matrix.specs.declared.Mat4.{Mat4}
 use Rattle.matrix.specs.Matrix.{f0, f1}
-use Rattle.nitro.specs.Name.{Name, named}
-use Rattle.nitro.specs.Curve.{Curve, none, Recorded, recorded}
-use Rattle.nitro.specs.Animation.{Axes, Object, noAxes, matrixAt}
-use Rattle.nitro.specs.MaterialAnimation.{uvMatrixAt}
-use Rattle.nitro.specs.Pattern.{Key, Track, choice}
-use Rattle.nitro.specs.Container.{Kind, jnt, srt, pat, allKinds, stamped, section, Entry, entry}
-use Rattle.gltf.specs.declared.curve.CurveDomain.{CurveDomain}
-use Rattle.gltf.specs.declared.curve.CurveDomain.the-variants.{None, Sampled}
+use Rattle.info_block.specs.Name.{Name, named}
+use Rattle.curve.specs.Curve.{Curve, none, Recorded, recorded}
+use Rattle.animation.specs.Animation.{Axes, Object, noAxes, matrixAt}
+use Rattle.material_animation.specs.MaterialAnimation.{uvMatrixAt}
+use Rattle.pattern.specs.Pattern.{Key, Track, choice}
+use Rattle.nitro.specs.Container.{Kind, jnt, srt, pat, allKinds, stamped, section, Entry, entry, EntryRecord, recordOf, entryOf}
+use Rattle.gltf.specs.declared.CurveDomain.{CurveDomain}
+use Rattle.gltf.specs.declared.CurveDomain.the-variants.{None, Sampled}
 use Rattle.gltf.specs.Curve.{axesDomain, anyEmpty, framesOf, resampleVec3}
 
 -- ---- what is asked of an entry
@@ -155,17 +155,6 @@ ask (patternName track) e = at (e .held .names) [] track answered
 
 -- ---- the calls
 
--- the record that the entry check answers, beside the reach: how many objects or tracks the entry has is its count
-pub record EntryRecord : Type 0 where
-  pub name : Name
-  pub frames : ℕ
-  pub count : ℕ
-
-abbrev pub recordOf : (k : Kind) → Entry k → EntryRecord
-recordOf jnt e = record { name = e .name; frames = e .held .frames; count = length (e .held .objects) }
-recordOf srt e = record { name = e .name; frames = e .held .frames; count = length (e .held .tracks) }
-recordOf pat e = record { name = e .name; frames = e .held .frames; count = length (e .held .tracks) }
-
 pub data Call : Type 0 where
   check : (entry : ℕ) → Call
   find : (name : Name) → Call
@@ -176,10 +165,6 @@ abbrev pub Answer : Call → Type 0
 Answer (check i) = EntryRecord
 Answer (find name) = List ℕ
 Answer (on k i q) = Reply q
-
--- entry i of a section of the kind k
-unfoldable pub entryOf : (k : Kind) → ℕ → Reader (Entry k)
-entryOf k i = bind (stamped (k ∷ [])) (λ _. entry k i)
 
 unfoldable pub reader : (c : Call) → Reader (Answer c)
 reader (check i) = bind (stamped allKinds) (λ k. bind (entry k i) (λ e. done (recordOf k e)))

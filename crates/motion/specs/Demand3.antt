@@ -5,8 +5,9 @@ use mathlib.Core.Path.{_≡_}
 use lib.ListN.{take}
 use Rattle.util.specs.Reader.{accepted, refused}
 use Rattle.util.specs.Place.{front}
-use Rattle.nitro.specs.Name.{Name}
-use Rattle.motion.specs.Calls.{Call, check, find, on, Answer, EntryRecord, answer}
+use Rattle.info_block.specs.Name.{Name}
+use Rattle.nitro.specs.Container.{EntryRecord}
+use Rattle.motion.specs.Calls.{Call, check, find, on, Answer, answer}
 
 -- c is a call on entry i
 abbrev pub On : ℕ → Call → Type 0

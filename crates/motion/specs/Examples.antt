@@ -9,9 +9,9 @@ use lib.Ieee.{Float, fin, neg}
 use Rattle.util.specs.View.{littleBytes}
 use Rattle.util.specs.Reader.{accepted, refused}
 use Rattle.matrix.specs.Matrix.{f0, f1}
-use Rattle.nitro.specs.Curve.{list}
-use Rattle.nitro.specs.Container.{jnt, srt, pat, stampOf}
-use Rattle.motion.specs.Calls.{check, on, translationCurve, resampleTranslation, resampleScale, chosen, channelCurve, noSpan, span, EntryRecord, answer}
+use Rattle.curve.specs.Curve.{list}
+use Rattle.nitro.specs.Container.{jnt, srt, pat, stampOf, EntryRecord}
+use Rattle.motion.specs.Calls.{check, on, translationCurve, resampleTranslation, resampleScale, chosen, channelCurve, noSpan, span, answer}
 use Rattle.motion.specs.Evaluate.{evaluate}
 use Rattle.motion.specs.Pinned.{walk}
 

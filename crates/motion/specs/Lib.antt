@@ -1,7 +1,13 @@
 pub mod Calls
+pub mod Finding
+pub mod JntCode
 pub mod Demand3
 pub mod Evaluate
 pub mod Pinned
 pub mod Examples
 pub mod Slips
 pub mod Listing
+pub mod Answers
+pub mod Opened
+pub mod PatCode
+pub mod SrtCode

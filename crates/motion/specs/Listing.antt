@@ -8,10 +8,10 @@ use mathlib.Core.Path.{_≡_, refl}
 use lib.Dec.{ltb}
 use lib.ListN.{length}
 use Rattle.util.specs.Reader.{Reader, done, bind, Outcome, accepted, refused, run}
-use Rattle.nitro.specs.InfoBlock.{Block}
-use Rattle.nitro.specs.Name.{Name}
-use Rattle.nitro.specs.Container.{Kind, jnt, srt, pat, allKinds, stamped, section}
-use Rattle.motion.specs.Calls.{check, EntryRecord, answer}
+use Rattle.info_block.specs.InfoBlock.{Block}
+use Rattle.info_block.specs.Name.{Name}
+use Rattle.nitro.specs.Container.{Kind, jnt, srt, pat, allKinds, stamped, section, EntryRecord}
+use Rattle.motion.specs.Calls.{check, answer}
 use Rattle.motion.specs.Evaluate.{evaluate}
 use Rattle.motion.specs.Pinned.{walk}
 

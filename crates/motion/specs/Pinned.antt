@@ -8,10 +8,10 @@ use lib.Ieee.{Float, round, neg, sub, mul}
 use Rattle.util.specs.Reader.{accepted, refused}
 use Rattle.util.specs.Fixed.{fix1-19-12, fix1-3-12, fix1-10-5, fixed, ratio, Exactly}
 use Rattle.matrix.specs.Matrix.{f0, f1, col3}
-use Rattle.nitro.specs.Rotation.{pivotMat, basisMat}
-use Rattle.nitro.specs.Curve.{Curve, samples}
-use Rattle.nitro.specs.Pattern.{Key, firstLater, choice}
-use Rattle.gltf.specs.declared.curve.CurveDomain.the-variants.{Sampled}
+use Rattle.rotation.specs.Rotation.{pivotMat, basisMat}
+use Rattle.curve.specs.Curve.{Curve, samples}
+use Rattle.pattern.specs.Pattern.{Key, firstLater, choice}
+use Rattle.gltf.specs.declared.CurveDomain.the-variants.{Sampled}
 use Rattle.gltf.specs.Curve.{domain, framesFrom, framesOf}
 use Rattle.motion.specs.Calls.{check, answer}
 use Rattle.motion.specs.Evaluate.{evaluate}

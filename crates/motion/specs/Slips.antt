@@ -6,9 +6,9 @@ use mathlib.Core.Path.{_≡_, refl}
 use lib.Dec.{ltb}
 use lib.ListN.{getD}
 use Rattle.util.specs.Reader.{accepted, refused}
-use Rattle.nitro.specs.Curve.{floor, ceil, index}
-use Rattle.nitro.specs.Pattern.{Key}
-use Rattle.gltf.specs.declared.curve.CurveDomain.the-variants.{Sampled}
+use Rattle.curve.specs.Curve.{floor, ceil, index}
+use Rattle.pattern.specs.Pattern.{Key}
+use Rattle.gltf.specs.declared.CurveDomain.the-variants.{Sampled}
 use Rattle.gltf.specs.Curve.{framesOf}
 use Rattle.motion.specs.Calls.{check, answer}
 use Rattle.motion.specs.Evaluate.{evaluate}

@@ -1,1 +1,52 @@
-// The public calls. specs/ has what each of them answers.
+// The public calls: each answers every section, every index and every name, and none asks anything of its caller.
+pub mod answers;
+pub mod jnt;
+mod opened;
+pub mod pat;
+pub mod srt;
+
+use info_block::BlockRead;
+use nitro::container::StampRead;
+use nitro::container::read_section;
+use nitro::container::read_stamp;
+use nitro::entry::EntryCheck;
+use nitro::entry::check_entry;
+use nitro::name::NameFound;
+use nitro::name::find_name;
+ghost use mathlib.Core.Path.{_≡_};
+ghost use Rattle.nitro.specs.EntryCode.{checkOf};
+ghost use Rattle.motion.specs.Calls.{answer};
+ghost use Rattle.motion.specs.Calls as calls;
+ghost use Rattle.motion.specs.Finding.{Finds};
+
+// The entry check: the number, or the record.
+pub fn check(s: &[u8], entry: usize) -> EntryCheck
+    ensures { λ r. ⌜ r ≡ checkOf (answer (calls.check entry) (now (s .entry))) ⌝ }
+{
+    match read_stamp(s) {
+        StampRead::Refused(n) => EntryCheck::Refused(n),
+        StampRead::Whole(kind) => check_entry(s, kind, entry),
+    }
+}
+
+pub enum Found {
+    At(usize),
+    Nothing,
+    Refused(u8),
+}
+
+// An entry with this name: its index. Which of several is free; none is answered exactly if there is none.
+pub fn find(s: &[u8], name: &[u8; 16]) -> Found
+    ensures { λ r. ⌜ Finds (answer (calls.find (now (name .entry))) (now (s .entry))) r ⌝ }
+{
+    match read_stamp(s) {
+        StampRead::Refused(n) => Found::Refused(n),
+        StampRead::Whole(kind) => match read_section(s) {
+            BlockRead::Refused(n) => Found::Refused(n),
+            BlockRead::Whole(b) => match find_name(s, b.names, b.count, name) {
+                NameFound::At(i) => Found::At(i),
+                NameFound::Nothing => Found::Nothing,
+            },
+        },
+    }
+}

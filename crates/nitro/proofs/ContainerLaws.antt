@@ -1,20 +1,29 @@
 -- A section has one kind at most; an entry is read from its offset onward. Assumes nothing.
+use Prim.Native.Nat.{ℕ, _+_, _*_, _≤_, _<_}
 use mathlib.Core.Bool.{Bool, true, false, cond}
 use mathlib.Core.List.{List, [], _∷_}
-use mathlib.Core.Logic.{_⊎_, inl, inr}
-use mathlib.Core.Path.{_≡_, refl, sym, _∙_}
-use Prim.Native.Nat.{ℕ}
+use mathlib.Core.Logic.{_⊎_, inl, inr, ⊎-elim}
+use mathlib.Core.Path.{_≡_, refl, sym, ap, _∙_}
+use native.Mathlib.Omega.{arith}
+use borrow.Author.Tests.{le-ltb, lt-ltb}
 use lib.Dec.{lit≤}
-use lib.ListN.{drop}
-use Rattle.util.specs.View.{same}
-use Rattle.util.specs.Reader.{run, bind, Verdict, answered, denied}
+use lib.ListN.{length, take, drop, getD}
+use Rattle.util.specs.View.{little, wordAt, same}
+use Rattle.util.specs.Reader.{Reader, done, Outcome, accepted, refused, ends, run, bind, unless, Verdict, answered, denied, tell}
 use Rattle.util.specs.Place.{within, moved, raised}
-use Rattle.util.proofs.ViewLaws.{same-like}
-use Rattle.util.proofs.Place.{run-within}
-use Rattle.nitro.specs.Animation.{animation}
-use Rattle.nitro.specs.MaterialAnimation.{materialAnimation}
-use Rattle.nitro.specs.Pattern.{pattern}
-use Rattle.nitro.specs.Container.{Kind, jnt, srt, pat, stampOf, allKinds, kindOf, value}
+use Rattle.util.proofs.Calls.{after, run-bind-as}
+use Rattle.util.proofs.Cut.{le-or-lt, had, had-part, short, max-right, to}
+use Rattle.util.proofs.Place.{run-raised, run-within}
+use Rattle.util.proofs.ViewLaws.{same-like, view-there}
+use Rattle.info_block.specs.declared.InfoBlock.{InfoBlock}
+use Rattle.info_block.specs.declared.BlockRead.{BlockRead}
+use Rattle.animation.specs.Animation.{animation}
+use Rattle.material_animation.specs.MaterialAnimation.{materialAnimation}
+use Rattle.pattern.specs.Pattern.{pattern}
+use Rattle.info_block.specs.InfoBlock.{infoBlock, blockAt, BlockIs}
+use Rattle.nitro.specs.Container.{Kind, jnt, srt, pat, stampOf, allKinds, kindOf, stamped, section, Value, value, Entry, entryIn, entry}
+use Rattle.nitro.specs.ContainerCode.{WholeHeader, HeaderIs, entryFrom, EntryStands}
+use Rattle.info_block.proofs.InfoBlockLaws.{block-ends}
 
 -- equal stamps are of one kind
 kind-like : (ks : List Kind) (a b : List ℕ) → same 4 a b ≡ true → kindOf ks a ≡ kindOf ks b
@@ -46,6 +55,90 @@ taken stamp k k' e = go (same 4 stamp (stampOf k')) refl
         inl (cc, one (same 4 stamp (stampOf k')) q)
     go false q = inr (other (same 4 stamp (stampOf k')) q)
 
+-- a stamp that is of the kind k for a call that takes all kinds is so for a call that takes k alone
+pub own : (stamp : List ℕ) (k : Kind) → kindOf allKinds stamp ≡ answered k → kindOf (k ∷ []) stamp ≡ answered k
+unfolding kindOf
+own stamp k e = go (same 4 stamp (stampOf jnt)) (same 4 stamp (stampOf srt)) (same 4 stamp (stampOf pat)) k refl refl refl e
+  where
+    no : {A : Type 0} → _≡_ {A = ℕ} 0 1 → A
+    no z = absurd (omega arith)
+
+    go : (a b c : Bool) (k : Kind) → same 4 stamp (stampOf jnt) ≡ a → same 4 stamp (stampOf srt) ≡ b → same 4 stamp (stampOf pat) ≡ c
+        → cond a (answered jnt) (cond b (answered srt) (cond c (answered pat) (denied 1))) ≡ answered k → _≡_ {A = Verdict Kind} (cond (same 4 stamp (stampOf k)) (answered k) (denied 1)) (answered k)
+    go true b c jnt p q r e = rw p refl
+    go true b c srt p q r e = no (cc)
+    go true b c pat p q r e = no (cc)
+    go false true c jnt p q r e = no (cc)
+    go false true c srt p q r e = rw q refl
+    go false true c pat p q r e = no (cc)
+    go false false true jnt p q r e = no (cc)
+    go false false true srt p q r e = no (cc)
+    go false false true pat p q r e = rw r refl
+    go false false false k p q r e = no (cc)
+
+-- a stamp of no kind is of no one kind
+pub no-kind : (stamp : List ℕ) (n : ℕ) → kindOf allKinds stamp ≡ denied n → (k : Kind) → (n ≡ 1) × (kindOf (k ∷ []) stamp ≡ denied 1)
+unfolding kindOf
+no-kind stamp n e k = go (same 4 stamp (stampOf jnt)) (same 4 stamp (stampOf srt)) (same 4 stamp (stampOf pat)) k refl refl refl e
+  where
+    no : {A : Type 0} → _≡_ {A = ℕ} 0 1 → A
+    no z = absurd (omega arith)
+
+    go : (a b c : Bool) (k : Kind) → same 4 stamp (stampOf jnt) ≡ a → same 4 stamp (stampOf srt) ≡ b → same 4 stamp (stampOf pat) ≡ c
+        → cond a (answered jnt) (cond b (answered srt) (cond c (answered pat) (denied 1))) ≡ denied n → (n ≡ 1) × _≡_ {A = Verdict Kind} (cond (same 4 stamp (stampOf k)) (answered k) (denied 1)) (denied 1)
+    go true b c k p q r e = no (cc)
+    go false true c k p q r e = no (cc)
+    go false false true k p q r e = no (cc)
+    go false false false jnt p q r e = (cc, rw p refl)
+    go false false false srt p q r e = (cc, rw q refl)
+    go false false false pat p q r e = (cc, rw r refl)
+
+-- ---- the stamp as a reader
+
+told : {A : Type 0} (v : Verdict A) (s : List ℕ) (m j : ℕ) (a : A) → run (tell v) s m ≡ accepted j a → (v ≡ answered a) × (m ≡ j)
+unfolding run
+told (answered b) s m j a e = (cc, cc)
+told (denied n) s m j a e = let z : _≡_ {A = ℕ} 0 1 = cc in absurd (omega arith)
+
+pub stamp-of : (s : List ℕ) (j : ℕ) (k : Kind) → run (stamped allKinds) s 0 ≡ accepted j k → (4 ≤ length s) × (kindOf allKinds (take 4 s) ≡ answered k) × (4 ≡ j)
+unfolding run stamped
+stamp-of s j k e =
+    let p = had-part 4 (length s) (run (tell (kindOf allKinds (take 4 s))) s 4) j k e in
+    let q = told (kindOf allKinds (take 4 s)) s 4 j k (p .1) in
+    (p .0, q .0, q .1)
+
+module _ (s : List ℕ) (h : 4 ≤ length s) (k : Kind) where
+  pub stamp-taken : kindOf (k ∷ []) (take 4 s) ≡ answered k → run (stamped (k ∷ [])) s 0 ≡ accepted 4 k
+  unfolding stamped run
+  stamp-taken q = had _ _ _ _ h (rw q refl)
+
+  pub stamp-refused : kindOf (k ∷ []) (take 4 s) ≡ denied 1 → run (stamped (k ∷ [])) s 0 ≡ refused 1
+  unfolding stamped run
+  stamp-refused q = had _ _ _ _ h (rw q refl)
+
+-- a stamp that a call for all kinds refuses is refused for each kind
+told-no : {A : Type 0} (v : Verdict A) (s : List ℕ) (m n : ℕ) → run (tell v) s m ≡ refused n → v ≡ denied n
+unfolding run
+told-no (answered b) s m n e = let z : _≡_ {A = ℕ} 0 1 = cc in absurd (omega arith)
+told-no (denied k) s m n e = cc
+
+pub stamp-none : (s : List ℕ) (n : ℕ) → run (stamped allKinds) s 0 ≡ refused n → (k : Kind) → run (stamped (k ∷ [])) s 0 ≡ refused n
+unfolding run stamped
+stamp-none s n e k = ⊎-elim whole cut (le-or-lt 4 (length s))
+  where
+    whole : 4 ≤ length s → ends 4 (length s) (run (tell (kindOf (k ∷ []) (take 4 s))) s 4) ≡ refused n
+    whole h =
+        let v = no-kind (take 4 s) n (told-no (kindOf allKinds (take 4 s)) s 4 n (sym (had 4 (length s) (run (tell (kindOf allKinds (take 4 s))) s 4) _ h refl) ∙ e)) k in
+        had _ _ _ _ h (rw (v .1, v .0) refl)
+
+    cut : length s < 4 → ends 4 (length s) (run (tell (kindOf (k ∷ []) (take 4 s))) s 4) ≡ refused n
+    cut h = short _ _ _ h ∙ (sym (short 4 (length s) (run (tell (kindOf allKinds (take 4 s))) s 4) h) ∙ e)
+
+-- a section under four bytes has no stamp, for any call
+pub stamp-cut : (s : List ℕ) (ks : List Kind) → length s < 4 → run (stamped ks) s 0 ≡ refused 2
+unfolding stamped run
+stamp-cut s ks h = short _ _ _ h
+
 -- An entry's reader placed at its offset is that reader on what follows the offset, `&s[off..]` in code: its reach counts from the
 -- offset, and an offset past the section leaves no byte to read.
 pub value-within : (k : Kind) (off : ℕ) (s : List ℕ) (m : ℕ) → run (within off (value k)) s m ≡ raised m (moved off (run (value k) (drop off s) 0))
@@ -53,3 +146,100 @@ unfolding animation materialAnimation pattern bind
 value-within jnt off s m = run-within off 0 4 _ s m (lit≤ tt)
 value-within srt off s m = run-within off 0 4 _ s m (lit≤ tt)
 value-within pat off s m = run-within off 0 4 _ s m (lit≤ tt)
+
+-- ---- what the code of container.rt finds
+
+-- the first of the kinds that a stamp has
+module _ (s : List ℕ) where
+  module _ (h : 4 ≤ length s) (a : Bool) (ea : a ≡ same 4 (take 4 s) (stampOf jnt)) where
+    by-tests : run (stamped allKinds) s 0 ≡ run (tell (cond (same 4 (take 4 s) (stampOf jnt)) (answered jnt) (cond (same 4 (take 4 s) (stampOf srt)) (answered srt) (cond (same 4 (take 4 s) (stampOf pat)) (answered pat) (denied 1))))) s 4
+    unfolding run stamped kindOf
+    by-tests = had _ _ _ _ h refl
+
+    pub is-jnt : a ≡ true → run (stamped allKinds) s 0 ≡ accepted 4 jnt
+    unfolding run
+    is-jnt q = by-tests ∙ rw (sym ea ∙ q) refl
+
+    module _ (qa : a ≡ false) (b : Bool) (eb : b ≡ same 4 (take 4 s) (stampOf srt)) where
+      pub is-srt : b ≡ true → run (stamped allKinds) s 0 ≡ accepted 4 srt
+      unfolding run
+      is-srt q = by-tests ∙ rw (sym ea ∙ qa, sym eb ∙ q) refl
+
+      module _ (qb : b ≡ false) (c : Bool) (ec : c ≡ same 4 (take 4 s) (stampOf pat)) where
+        pub is-pat : c ≡ true → run (stamped allKinds) s 0 ≡ accepted 4 pat
+        unfolding run
+        is-pat q = by-tests ∙ rw (sym ea ∙ qa, sym eb ∙ qb, sym ec ∙ q) refl
+
+        pub is-none : c ≡ false → run (stamped allKinds) s 0 ≡ refused 1
+        unfolding run
+        is-none q = by-tests ∙ rw (sym ea ∙ qa, sym eb ∙ qb, sym ec ∙ q) refl
+
+-- the section's header, after its stamp
+module _ (s : List ℕ) where
+  pub size-short : length s < 8 → run section s 4 ≡ refused 2
+  unfolding run bind section
+  size-short h = short _ _ _ h
+
+  header-run : 8 ≤ length s → run section s 4 ≡ raised 8 (run (infoBlock 8 4) s 0)
+  unfolding run bind section
+  header-run h = had _ _ _ _ h (run-raised (infoBlock 8 4) s 8)
+
+  pub header-read : 8 ≤ length s → (r : BlockRead) → BlockIs s 8 4 r → HeaderIs s r
+  unfolding raised
+  header-read h (BlockRead.Whole b) w =
+      let e = block-ends 8 4 s (b .end) _ (w .reads) in
+      record { block = w; reads = header-run h ∙ (ap (raised 8) (w .reads) ∙ to _ _ _ (max-right 8 (b .end) (omega arith))) }
+  header-read h (BlockRead.Refused n) w = header-run h ∙ ap (raised 8) w
+
+pub header-refused : (s : List ℕ) (i n : ℕ) → run section s 4 ≡ refused n → (k : Kind) → run (entry k i) s 4 ≡ refused n
+unfolding entry after
+header-refused s i n e k = run-bind-as section (entryIn k i) s 4 (refused n) e
+
+-- an entry of a section whose header is whole
+module _ (s : List ℕ) (i : ℕ) (b : InfoBlock) (w : WholeHeader s b) where
+  in-block : (k : Kind) → run (entry k i) s 4 ≡ run (entryIn k i (blockAt s 4 b)) s (b .end)
+  unfolding entry after
+  in-block k = run-bind-as section (entryIn k i) s 4 (accepted (b .end) (blockAt s 4 b)) (w .reads)
+
+  pub no-entry : b .count ≤ i → (k : Kind) → run (entry k i) s 4 ≡ refused 9
+  unfolding run bind entryIn unless
+  no-entry h k = in-block k ∙ rw (le-ltb i (b .count) h) refl
+
+  module _ (h : i < b .count) where
+    pub name-place : b .names + 16 * i + 16 ≤ length s
+    name-place = let x = w .block .names-end in let y = w .block .inside in omega arith
+
+    pub datum-place : b .datums + 4 * i + 4 ≤ length s
+    datum-place = let x = w .block .datums-end in let y = w .block .names-end in let z = w .block .inside in omega arith
+
+    offset-at : little (getD (blockAt s 4 b .datums) i []) ≡ wordAt 4 s (b .datums + 4 * i)
+    offset-at = ap little (view-there 4 (λ bs. bs) (b .count) i (b .datums) s [] h)
+
+    name-at : getD (blockAt s 4 b .names) i [] ≡ take 16 (drop (b .names + 16 * i) s)
+    name-at = view-there 16 (λ bs. bs) (b .count) i (b .names) s [] h
+
+    -- the entry at an offset, under a name
+    abbrev named-at : (k : Kind) → ℕ → List ℕ → Reader (Entry k)
+    named-at k off name = bind (within off (value k)) (λ v. done (record { name = name; offset = off; held = v }))
+
+    found : (off : ℕ) → off ≡ wordAt 4 s (b .datums + 4 * i) → (k : Kind) → run (entryIn k i (blockAt s 4 b)) s (b .end) ≡ run (named-at k off (take 16 (drop (b .names + 16 * i) s))) s (b .end)
+    unfolding bind entryIn unless
+    found off e k =
+        rw (lt-ltb i (b .count) h)
+        (ap (λ (o : ℕ). run (named-at k o (getD (blockAt s 4 b .names) i [])) s (b .end)) (offset-at ∙ sym e) ∙ ap (λ (n : List ℕ). run (named-at k off n) s (b .end)) name-at)
+
+    by-outcome : (k : Kind) (off : ℕ) (o : Outcome (Value k))
+        → after (raised (b .end) (moved off o)) (λ j v. accepted j (record { name = take 16 (drop (b .names + 16 * i) s); offset = off; held = v }))
+        ≡ entryFrom k s (record { offset = off; name = b .names + 16 * i; end = b .end }) o
+    unfolding after raised moved
+    by-outcome k off (accepted m v) = refl
+    by-outcome k off (refused n) = refl
+
+    placed : (k : Kind) (off : ℕ) → run (named-at k off (take 16 (drop (b .names + 16 * i) s))) s (b .end) ≡ entryFrom k s (record { offset = off; name = b .names + 16 * i; end = b .end }) (run (value k) (drop off s) 0)
+    unfolding run
+    placed k off =
+        run-bind-as (within off (value k)) (λ v. done (record { name = take 16 (drop (b .names + 16 * i) s); offset = off; held = v })) s (b .end) _ (value-within k off s (b .end))
+        ∙ by-outcome k off (run (value k) (drop off s) 0)
+
+    pub entry-stands : (off : ℕ) → off ≡ wordAt 4 s (b .datums + 4 * i) → off < 4294967296 → EntryStands s i (record { offset = off; name = b .names + 16 * i; end = b .end })
+    entry-stands off e l = record { reads = λ k. in-block k ∙ (found off e k ∙ placed k off); name-inside = name-place; end-inside = w .block .inside; near = l }

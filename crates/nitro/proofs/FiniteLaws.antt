@@ -1,9 +1,9 @@
 -- No sample of a curve and no entry of a matrix is a NaN or an infinity, whatever the section's bytes. Assumes nothing.
-use Prim.Native.Nat.{ℕ, suc, _+_, _-_, _*_, _/_, _^_, _≤_, _<_}
+use Prim.Native.Nat.{ℕ, suc, _+_, _-_, _*_, _^_, _≤_, _<_}
 use mathlib.Core.Bool.{Bool, true, false, not, cond}
 use mathlib.Core.List.{List, [], _∷_}
 use mathlib.Core.Path.{_≡_, refl, _∙_}
-use native.Mathlib.Nat.{le-trans, le-of-lt, mod-lt, div-le-self, le-mul-of-pos-right}
+use native.Mathlib.Nat.{le-trans, le-of-lt, le-mul-of-pos-right}
 use native.Mathlib.Omega.{arith}
 use borrow.Author.Tests.{leb-false}
 use lib.Dec.{T, leb, ltb, eqb, lit≤}
@@ -23,16 +23,20 @@ use Rattle.matrix.specs.declared.Col3.{Col3}
 use Rattle.matrix.specs.declared.Mat3.{Mat3}
 use Rattle.matrix.specs.declared.Col4.{Col4}
 use Rattle.matrix.specs.declared.Mat4.{Mat4}
+use Rattle.curve.specs.declared.Number.{Number}
+use Rattle.curve.specs.declared.Number.the-variants.{Fix1_19_12, Fix1_3_12, Fix1_10_5}
+use Rattle.animation.specs.declared.Tables.{Tables}
 use Rattle.nitro.specs.Finite.{Finite, FiniteCol, FiniteMat}
-use Rattle.nitro.specs.InfoBlock.{infoBlock}
+use Rattle.info_block.specs.InfoBlock.{infoBlock}
 use Rattle.matrix.specs.Matrix.{f0, f1, col3, col4, identity3, translation4, extend, rotation4, scale4, trs, dot, column, product, minor}
-use Rattle.nitro.specs.Rotation.{Place, put, placed, placedCol, turned, onlyFirst, pivotMat, basisMat}
-use Rattle.nitro.specs.Curve.{Curve, none, constant, samples, floor, ceil, whole, index, mix, mixCol, mixMat, between, sampleList, sampleAt}
-use Rattle.nitro.specs.Animation.{Axes, Object, Animation, noAxes, startOf, endOf, rateOf, valuesOf, number, scalar, axes, Tables, pivotOf, basisOf, reference, rotation, animated, object, animation, axesAt, matrixAt}
-use Rattle.nitro.specs.MaterialAnimation.{MaterialAnimation, carries, channel, materialAnimation, uvMatrixAt}
-use Rattle.nitro.specs.Pattern.{pattern}
+use Rattle.rotation.specs.Rotation.{Place, put, placed, placedCol, turned, onlyFirst, pivotMat, basisMat}
+use Rattle.curve.specs.Curve.{Curve, none, constant, samples, floor, ceil, whole, index, mix, mixCol, mixMat, between, sampleList, sampleAt, numberOf}
+use Rattle.animation.specs.Animation.{Axes, Object, Animation, noAxes, valuesOf, widthOf, numberKind, scalarList, scalar, axes, pivotOf, basisOf, reference, rotationList, rotation, animated, object, animation, axesAt, matrixAt}
+use Rattle.material_animation.specs.MaterialAnimation.{MaterialAnimation, carries, channel, five, materialAnimation, uvMatrixAt}
+use Rattle.pattern.specs.Pattern.{pattern}
 use Rattle.nitro.specs.Container.{Kind, jnt, srt, pat, Value, value, entryIn, entry}
-use Rattle.nitro.proofs.IndexLaws.{index-upto, floor-le}
+use Rattle.animation.proofs.AnimationLaws.{end-lt, values-lt}
+use Rattle.curve.proofs.IndexLaws.{index-upto, floor-le}
 
 pub finite-no-nan : (x : Float) → Finite x → T (not (isNan x))
 unfolding isNan
@@ -344,20 +348,10 @@ uv-finite channels h frame = below-mat (translation-below (at 3) (at 4) below-ze
 
 -- ---- what the readers give
 
--- a curve word's end is below 4096, and so is the number of its values
-end-lt : (w : ℕ) → endOf w < 65536
-end-lt w = let h = mod-lt (w / 2 ^ 16) (pow-pos 12) in omega arith
-
-values-lt : (w : ℕ) → valuesOf w < 65536
-values-lt w = let h = end-lt w in let l = div-le-self (endOf w - startOf w) (2 ^ rateOf w) in omega arith
-
-number-small : (width : ℕ) (bs : List ℕ) → Small (number width bs)
-unfolding number
-number-small width bs = go (eqb width 0)
-  where
-    go : (b : Bool) → Small (cond b (fixed fix1-19-12 (wordAt 4 bs 0)) (fixed fix1-3-12 (wordAt 2 bs 0)))
-    go true = small-fixed fix1-19-12 (lit≤ tt) _
-    go false = small-fixed fix1-3-12 (lit≤ tt) _
+number-small : (n : Number) (bs : List ℕ) → Small (numberOf n bs)
+number-small Fix1_19_12 bs = small-fixed fix1-19-12 (lit≤ tt) _
+number-small Fix1_3_12 bs = small-fixed fix1-3-12 (lit≤ tt) _
+number-small Fix1_10_5 bs = small-fixed fix1-10-5 (lit≤ tt) _
 
 -- of a reader's value and the place of the next field: P of the value
 abbrev Of : {X : Type 0} → (X → Type 0) → X × ℕ → Type 0
@@ -367,13 +361,15 @@ Of P v = P (v .0)
 sized : {X : Type 0} {P : X → Type 0} {end n : ℕ} (vs : List X) → end < 65536 → n < 65536 → Many P n vs → SizedList P end vs
 sized vs e l h = let q = h .0 in record { ends = e; few = omega arith; values = h .1 }
 
+scalar-list-all : (numbers w off next : ℕ) → All (Of (SizedCurve Small)) (scalarList numbers w off next)
+unfolding scalarList
+scalar-list-all numbers w off next =
+    all-bind (Many Small (valuesOf w)) _ _ _ (view-many Small _ _ (λ bs _. number-small (numberKind (widthOf w)) bs) _) λ vs h. sized vs (end-lt w) (values-lt w) h
+
 scalar-all : (numbers : ℕ) (b : Bool) (p : ℕ) → All (Of (SizedCurve Small)) (scalar numbers b p)
 unfolding scalar
-scalar-all numbers true p = all-after _ _ _ λ bs. number-small 0 bs
-scalar-all numbers false p =
-    all-after _ _ _ λ w.
-    all-after _ _ _ λ off.
-    all-bind (Many Small (valuesOf w)) _ _ _ (view-many Small _ _ (λ bs _. number-small _ bs) _) λ vs h. sized vs (end-lt w) (values-lt w) h
+scalar-all numbers true p = all-after _ _ _ λ bs. number-small Fix1_19_12 bs
+scalar-all numbers false p = all-after _ _ _ λ f. scalar-list-all numbers (f .0) (f .1) (p + 8)
 
 axes-all : (numbers flags first p : ℕ) → All (Of SizedAxes) (axes numbers flags first p)
 unfolding axes
@@ -389,17 +385,19 @@ reference-all t x =
     all-cond _ (bit x 15) (part _ _ (λ bs. done (pivotOf bs))) (part _ _ (λ bs. done (basisOf bs)))
     (λ bs h. pivot-small _ _ _ _ (small-fixed fix1-3-12 (lit≤ tt) _) (small-fixed fix1-3-12 (lit≤ tt) _)) (λ bs h. basis-small _ _ _ _ _)
 
+rotation-list-all : (t : Tables) (w off next : ℕ) → All (Of (SizedCurve (Nine Small))) (rotationList t w off next)
+unfolding rotationList
+rotation-list-all t w off next =
+    all-bind (Many (λ _. Unit {0}) (valuesOf w)) _ _ _ (view-many _ _ _ (λ _ _. tt) _) λ xs n.
+    all-bind (Many (Nine Small) (length xs)) _ _ _ (all-each _ _ xs (each-of _ (reference-all t) xs)) λ ms h. sized ms (end-lt w) (values-lt w) (h .0 ∙ n .0, h .1)
+
 rotation-all : (t : Tables) (b : Bool) (p : ℕ) → All (Of (SizedCurve (Nine Small))) (rotation t b p)
 unfolding rotation
 rotation-all t true p =
     all-after _ _ _ λ x.
     all-after _ _ _ λ _.
     all-bind (Nine Small) _ _ _ (reference-all t x) λ m h. h
-rotation-all t false p =
-    all-after _ _ _ λ w.
-    all-after _ _ _ λ off.
-    all-bind (Many (λ _. Unit {0}) (valuesOf w)) _ _ _ (view-many _ _ _ (λ _ _. tt) _) λ xs n.
-    all-bind (Many (Nine Small) (length xs)) _ _ _ (all-each _ _ xs (each-of _ (reference-all t) xs)) λ ms h. sized ms (end-lt w) (values-lt w) (h .0 ∙ n .0, h .1)
+rotation-all t false p = all-after _ _ _ λ f. rotation-list-all t (f .0) (f .1) (p + 8)
 
 no-axes : SizedAxes noAxes
 no-axes = record { x = tt; y = tt; z = tt }
@@ -473,7 +471,6 @@ material-all =
     all-after _ _ _ λ frames.
     all-after _ _ _ λ _.
     all-bind (λ block. Each Bytes (block .datums)) _ _ _ (datums-all _ _) λ block h.
-    let five = 0 ∷ 1 ∷ 2 ∷ 3 ∷ 4 ∷ [] in
     let tracks-all = each-map Bytes (λ track. All SizedTrack (each (channel track) five)) (λ track b. all-each _ _ five (each-of _ (channel-all track b) five)) (block .datums) h in
     all-bind (Many SizedTrack (length (block .datums))) _ _ _ (all-each _ _ (block .datums) tracks-all) λ tracks k. k .1
 

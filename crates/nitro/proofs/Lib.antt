@@ -1,5 +1,4 @@
 pub mod ContainerLaws
-pub mod FloorLaws
-pub mod IndexLaws
-pub mod RotationLaws
 pub mod FiniteLaws
+pub mod EntryLaws
+pub mod NameLaws

@@ -3,15 +3,15 @@ use Prim.Native.Nat.{ℕ}
 use mathlib.Core.Bool.{cond}
 use mathlib.Core.List.{List, [], _∷_}
 use lib.Dec.{ltb}
-use lib.ListN.{getD}
+use lib.ListN.{length, getD}
 use Rattle.util.specs.View.{little, same}
 use Rattle.util.specs.Reader.{Reader, done, part, bind, _>>=_, _>>_, word, unless, Verdict, answered, denied, tell}
 use Rattle.util.specs.Place.{within}
-use Rattle.nitro.specs.Name.{Name}
-use Rattle.nitro.specs.InfoBlock.{Block, infoBlock}
-use Rattle.nitro.specs.Animation.{Animation, animation}
-use Rattle.nitro.specs.MaterialAnimation.{MaterialAnimation, materialAnimation}
-use Rattle.nitro.specs.Pattern.{Pattern, pattern}
+use Rattle.info_block.specs.Name.{Name}
+use Rattle.info_block.specs.InfoBlock.{Block, infoBlock}
+use Rattle.animation.specs.Animation.{Animation, animation}
+use Rattle.material_animation.specs.MaterialAnimation.{MaterialAnimation, materialAnimation}
+use Rattle.pattern.specs.Pattern.{Pattern, pattern}
 
 -- the three kinds of section
 pub data Kind : Type 0 where
@@ -67,3 +67,28 @@ entryIn k i block = do
 -- entry i, after the stamp
 unfoldable pub entry : (k : Kind) → ℕ → Reader (Entry k)
 entry k i = bind section (entryIn k i)
+
+-- entry i of a section of the kind k
+unfoldable pub entryOf : (k : Kind) → ℕ → Reader (Entry k)
+entryOf k i = bind (stamped (k ∷ [])) (λ _. entry k i)
+
+-- ---- the record of an entry
+
+-- the record that the entry check answers, beside the reach: how many objects or tracks the entry has is its count
+pub record EntryRecord : Type 0 where
+  pub name : Name
+  pub frames : ℕ
+  pub count : ℕ
+
+abbrev pub framesOf : (k : Kind) → Value k → ℕ
+framesOf jnt v = v .frames
+framesOf srt v = v .frames
+framesOf pat v = v .frames
+
+abbrev pub countOf : (k : Kind) → Value k → ℕ
+countOf jnt v = length (v .objects)
+countOf srt v = length (v .tracks)
+countOf pat v = length (v .tracks)
+
+abbrev pub recordOf : (k : Kind) → Entry k → EntryRecord
+recordOf k e = record { name = e .name; frames = framesOf k (e .held); count = countOf k (e .held) }

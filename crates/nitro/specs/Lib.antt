@@ -1,9 +1,5 @@
-pub mod Name
-pub mod InfoBlock
-pub mod Rotation
-pub mod Curve
-pub mod Animation
-pub mod MaterialAnimation
-pub mod Pattern
 pub mod Container
+pub mod ContainerCode
+pub mod EntryCode
+pub mod NameCode
 pub mod Finite

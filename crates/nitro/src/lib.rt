@@ -1,3 +1,4 @@
-// The sections JNT0, SRT0 and PAT0. specs/ has the meaning of each module.
-pub mod curve;
-pub mod rotation;
+// The sections JNT0, SRT0 and PAT0, and their entries. specs/ has their meaning.
+pub mod container;
+pub mod entry;
+pub mod name;

@@ -19,7 +19,8 @@ le-or-lt a b = go (leb a b) refl
     go true e = inl (leb-true a b e)
     go false e = inr (leb-false a b e)
 
-take-drop-take : (p n k : ℕ) (s : List ℕ) → p + n ≤ k → take n (drop p (take k s)) ≡ take n (drop p s)
+-- a part of what is taken
+pub take-drop-take : (p n k : ℕ) (s : List ℕ) → p + n ≤ k → take n (drop p (take k s)) ≡ take n (drop p s)
 take-drop-take zero n k s l = take-take n k s (omega arith)
 take-drop-take (suc p) n zero s l = absurd (omega arith)
 take-drop-take (suc p) n (suc k) [] l = refl
@@ -66,12 +67,29 @@ module _ {A : Type 0} where
   unfolding ends
   short e n o h = rw (lt-leb e n h) refl
 
+  -- whether or not the part is there, the rest is too short
+  pub past : (e n : ℕ) (o : Outcome A) → o ≡ refused 2 → ends e n o ≡ refused 2
+  unfolding ends
+  past e n o q = go (leb e n)
+    where
+      go : (b : Bool) → pick b o ≡ refused 2
+      go true = q
+      go false = refl
+
   -- the reach only grows
   pub grows : (r : Reader A) (s : List ℕ) (m m' : ℕ) (a : A) → run r s m ≡ accepted m' a → m ≤ m'
   unfolding run
   grows (done a') s m m' a e = let q : m ≡ m' = cc in omega arith
   grows (refuse n) s m m' a e = let q : _≡_ {A = ℕ} 0 1 = cc in absurd (omega arith)
   grows (part p n f) s m m' a e =
+      let w = had-part (p + n) (length s) (run (f (take n (drop p s))) s (max m (p + n))) m' a e in
+      let h = grows (f (take n (drop p s))) s (max m (p + n)) m' a (w .1) in
+      omega arith
+
+  -- a part that was read is in the reach
+  pub part-reach : (p n : ℕ) (f : List ℕ → Reader A) (s : List ℕ) (m m' : ℕ) (a : A) → run (part p n f) s m ≡ accepted m' a → p + n ≤ m'
+  unfolding run
+  part-reach p n f s m m' a e =
       let w = had-part (p + n) (length s) (run (f (take n (drop p s))) s (max m (p + n))) m' a e in
       let h = grows (f (take n (drop p s))) s (max m (p + n)) m' a (w .1) in
       omega arith
@@ -87,6 +105,15 @@ module _ {A : Type 0} where
       let g : max m (p + n) ≤ m' = grows (f (take n (drop p s))) s (max m (p + n)) m' a (w .1) in
       let l' : p + n ≤ length (front k s t) = simp (length-append, length-take) (omega arith) in
       had _ _ _ _ l' (rw (same-part p n k s t l (omega arith)) (kept (f (take n (drop p s))) s (max m (p + n)) m' a (w .1) k t h))
+
+  -- what is accepted reaches no further than the section
+  pub no-further : (r : Reader A) (s : List ℕ) (m m' : ℕ) (a : A) → run r s m ≡ accepted m' a → m ≤ length s → m' ≤ length s
+  unfolding run
+  no-further (done a') s m m' a e l = let q : m ≡ m' = cc in omega arith
+  no-further (refuse n) s m m' a e l = let q : _≡_ {A = ℕ} 0 1 = cc in absurd (omega arith)
+  no-further (part p n f) s m m' a e l =
+      let w = had-part (p + n) (length s) (run (f (take n (drop p s))) s (max m (p + n))) m' a e in
+      no-further (f (take n (drop p s))) s (max m (p + n)) m' a (w .1) (omega arith)
 
   -- a cut before the reach is too short
   pub cut : (r : Reader A) (s : List ℕ) (m m' : ℕ) (a : A) → run r s m ≡ accepted m' a → (k : ℕ) → m ≤ k → k < m' → run r (take k s) m ≡ refused 2
@@ -113,3 +140,16 @@ module _ {A : Type 0} where
       let l : p + n ≤ length s = w .0 in
       let l' : p + n ≤ length (s ++ t) = simp length-append (omega arith) in
       had _ _ _ _ l' (rw (whole-part p n s t l) (stays (f (take n (drop p s))) s (max m (p + n)) c (w .1) h t))
+
+-- ---- reaches
+
+-- a reach that a later part passes
+pub over : (m a b : ℕ) → a ≤ b → max m b ≡ b → max (max m a) b ≡ b
+over m a b h q = omega arith
+
+pub max-right : (m a : ℕ) → m ≤ a → max m a ≡ a
+max-right m a h = omega arith
+
+module _ {A : Type 0} where
+  pub to : (m n : ℕ) (a : A) → m ≡ n → accepted m a ≡ accepted n a
+  to m n a q = ap (λ (k : ℕ). accepted k a) q

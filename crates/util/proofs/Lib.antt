@@ -1,6 +1,7 @@
 pub mod Cut
 pub mod Place
 pub mod Calls
+pub mod Each
 pub mod BitsLaws
 pub mod RoundLaws
 pub mod FixedLaws

@@ -1,15 +1,17 @@
 -- Laws of words and of `same`. Assumes nothing.
-use Prim.Native.Nat.{ℕ, zero, suc, _+_, _*_, _≤_, _<_}
+use Prim.Native.Nat.{ℕ, zero, suc, _+_, _*_, _^_, _≤_, _<_}
 use mathlib.Core.Bool.{Bool, true, false, cond, false≢true}
-use mathlib.Core.List.{List}
-use mathlib.Core.Path.{_≡_, refl, ap}
+use mathlib.Core.List.{List, [], _∷_}
+use mathlib.Core.Path.{_≡_, refl, sym, ap, _∙_}
+use native.Mathlib.Nat.{mul-zero, mul-suc, add-comm, zero-add, suc-add, add-zero, pow-suc, mul-add, mul-right-comm, mul-comm, add-assoc}
 use native.Mathlib.Omega.{arith}
-use borrow.Author.Tests.{eqb-true}
+use borrow.Author.Tests.{eqb-true, eq-eqb, ne-eqb}
 use lib.Dec.{eqb}
-use lib.ListN.{length, getD}
-use lib.Seq.{drop-cons}
+use lib.ListN.{length, take, drop, getD}
+use lib.Seq.{drop-cons, drop-drop, take-take, take-nil, getD-take}
 use native.Mathlib.Numerals.{add-one}
-use Rattle.util.specs.View.{little, wordAt, same}
+use Rattle.util.proofs.Cut.{take-drop-take}
+use Rattle.util.specs.View.{little, wordAt, view, same}
 
 both : (x y : Bool) → cond x y false ≡ true → (x ≡ true) × (y ≡ true)
 both true y e = (refl, e)
@@ -33,8 +35,80 @@ pub word-two : (s : List ℕ) (p : ℕ) → p + 2 ≤ length s → getD s p 0 + 
 unfolding little
 word-two s p h = omega (arith, word-step 1 s p (omega arith), word-step 0 s (p + 1) (omega arith))
 
-pub word-four : (s : List ℕ) (p : ℕ) → p + 4 ≤ length s → wordAt 2 s p + 65536 * wordAt 2 s (p + 2) ≡ wordAt 4 s p
-word-four s p h =
-    let q : p + 1 + 1 ≡ p + 2 = omega arith in
-    let e : wordAt 2 s (p + 1 + 1) ≡ wordAt 2 s (p + 2) = ap (wordAt 2 s) q in
-    omega (arith, word-two s p (omega arith), word-step 3 s p (omega arith), word-step 2 s (p + 1) (omega arith))
+-- a word is the word of its first bytes and the word of the others
+pub word-join : (a b : ℕ) (s : List ℕ) (p : ℕ) → p + a ≤ length s → wordAt (a + b) s p ≡ wordAt a s p + 256 ^ a * wordAt b s (p + a)
+unfolding little
+word-join zero b s p h = rw (zero-add b, add-zero p) (none (little (take b (drop p s))))
+  where
+    none : (x : ℕ) → x ≡ 0 + 256 ^ 0 * x
+    none x = omega arith
+word-join (suc a) b s p h =
+    let q : p + 1 + a ≡ p + suc a = omega arith in
+    let f = word-step a s p (omega arith) in
+    let g = word-join a b s (p + 1) (omega arith) in
+    rw (suc-add a b, word-step (a + b) s p (omega arith), f, g, q, pow-suc 256 a) (spread (getD s p 0) (wordAt a s (p + 1)) (256 ^ a) (wordAt b s (p + suc a)))
+  where
+    spread : (x y z w : ℕ) → x + 256 * (y + z * w) ≡ x + 256 * y + z * 256 * w
+    spread x y z w = rw (mul-add 256 y (z * w), mul-right-comm z 256 w, mul-comm 256 (z * w)) (sym (add-assoc x (256 * y) (z * w * 256)))
+
+-- a word of some bytes of a section stands in the section
+pub word-part : (n m p q : ℕ) (s : List ℕ) → q + n ≤ m → wordAt n (take m (drop p s)) q ≡ wordAt n s (p + q)
+word-part n m p q s h = ap little (take-drop-take q n m (drop p s) h ∙ ap (take n) (drop-drop q p s))
+
+-- a word of one byte
+pub word-one : (s : List ℕ) (p : ℕ) → p < length s → getD s p 0 ≡ wordAt 1 s p
+unfolding little
+word-one s p h = omega (arith, word-step 0 s p h)
+
+-- ---- lists of items
+
+drop-take : (a b : ℕ) (l : List ℕ) → drop a (take (a + b) l) ≡ take b (drop a l)
+drop-take zero b l = rw (zero-add b) refl
+drop-take (suc a) b [] = rw (suc-add a b, take-nil {A = ℕ} b) refl
+drop-take (suc a) b (x ∷ l) = rw (suc-add a b) (drop-take a b l)
+
+module _ {A : Type 0} (size : ℕ) (read : List ℕ → A) where
+  pub view-length : (n : ℕ) (bs : List ℕ) → length (view size read n bs) ≡ n
+  unfolding view
+  view-length zero bs = refl
+  view-length (suc n) bs = ap suc (view-length n (drop size bs))
+
+  -- item i
+  pub view-at : (n i : ℕ) (bs : List ℕ) (d : A) → i < n → getD (view size read n bs) i d ≡ read (take size (drop (size * i) bs))
+  unfolding view
+  view-at zero i bs d h = absurd (omega arith)
+  view-at (suc n) zero bs d h = rw (mul-zero size) refl
+  view-at (suc n) (suc i) bs d h =
+      let q : size * suc i ≡ size + size * i = mul-suc size i ∙ add-comm (size * i) size in
+      view-at n i (drop size bs) d (omega arith) ∙ ap (λ (l : List ℕ). read (take size l)) (drop-drop (size * i) size bs ∙ ap (λ (k : ℕ). drop k bs) (sym q))
+
+  -- item i of the items at p
+  pub view-there : (n i p : ℕ) (s : List ℕ) (d : A) → i < n → getD (view size read n (drop p s)) i d ≡ read (take size (drop (p + size * i) s))
+  view-there n i p s d h = view-at n i (drop p s) d h ∙ ap (λ (l : List ℕ). read (take size l)) (drop-drop (size * i) p s)
+
+  -- the items see no byte past them
+  pub view-take : (n : ℕ) (bs : List ℕ) → view size read n (take (size * n) bs) ≡ view size read n bs
+  unfolding view
+  view-take zero bs = refl
+  view-take (suc n) bs =
+      let q : size * suc n ≡ size + size * n = mul-suc size n ∙ add-comm (size * n) size in
+      rw q (rw (take-take size (size + size * n) bs (omega arith), drop-take size (size * n) bs, view-take n (drop size bs)) refl)
+
+-- ---- the first bytes, compared from the last on
+
+module _ (s b : List ℕ) (k n : ℕ) (h : n < k) where
+  pub same-step : getD s n 0 ≡ getD b n 0 → same (suc n) (take k s) b ≡ same n (take k s) b
+  unfolding same
+  same-step e = rw (getD-take k s n 0 h, eq-eqb (getD s n 0) (getD b n 0) e) refl
+
+  pub same-differ : (getD s n 0 ≡ getD b n 0 → ⊥) → same (suc n) (take k s) b ≡ false
+  unfolding same
+  same-differ e = rw (getD-take k s n 0 h, ne-eqb (getD s n 0) (getD b n 0) e) refl
+
+pub same-one : (s b : List ℕ) (k : ℕ) → 0 < k → same 1 (take k s) b ≡ eqb (getD s 0 0) (getD b 0 0)
+unfolding same
+same-one s b k h = rw (getD-take k s 0 0 h) (whole (eqb (getD s 0 0) (getD b 0 0)))
+  where
+    whole : (x : Bool) → cond x true false ≡ x
+    whole true = refl
+    whole false = refl

@@ -7,6 +7,8 @@ use mathlib.Core.Bool.{Bool, true, false}
 use mathlib.Core.List.{List, [], _∷_}
 use lib.Dec.{leb}
 use lib.ListN.{length, take, drop}
+use Rattle.util.specs.declared.cur.Reach.{Reach}
+use Rattle.util.specs.declared.cur.Reach.the-variants.{Whole, Refused}
 use Rattle.util.specs.View.{little, view}
 
 -- `part p n rest`: the n bytes at p are read, and `rest` goes on with them. A reader sees nothing of the section but its parts.
@@ -41,6 +43,11 @@ module _ {A : Type 0} where
   abbrev pub number : Outcome A → ℕ
   number (accepted m a) = 0
   number (refused n) = n
+
+  -- what code that only follows a reader's parts answers
+  abbrev pub reachOf : Outcome A → Reach
+  reachOf (accepted m a) = Whole m
+  reachOf (refused n) = Refused n
 
 -- ---- one reader after the other
 

@@ -1,8 +1,16 @@
 // Little-endian words of a slice.
+ghost use mathlib.Core.List.{[], _∷_};
 ghost use mathlib.Core.Path.{_≡_};
 ghost use Prim.Native.Nat.{_+_, _≤_};
-ghost use lib.ListN.{length};
-ghost use Rattle.util.specs.View.{wordAt};
+ghost use lib.ListN.{length, take};
+ghost use Rattle.util.specs.View.{wordAt, same};
+
+pub fn byte(s: &[u8], p: usize) -> u8
+    requires { ⌜ p + 1 ≤ length (now s) ⌝ }
+    ensures { λ r. ⌜ r ≡ wordAt 1 (now (s .entry)) p ⌝ }
+{
+    s[p]
+}
 
 pub fn word16(s: &[u8], p: usize) -> u16
     requires { ⌜ p + 2 ≤ length (now s) ⌝ }
@@ -16,4 +24,28 @@ pub fn word32(s: &[u8], p: usize) -> u32
     ensures { λ r. ⌜ r ≡ wordAt 4 (now (s .entry)) p ⌝ }
 {
     (word16(s, p) as u32) + 65536 * (word16(s, p + 2) as u32)
+}
+
+pub fn word64(s: &[u8], p: usize) -> u64
+    requires { ⌜ p + 8 ≤ length (now s) ⌝ }
+    ensures { λ r. ⌜ r ≡ wordAt 8 (now (s .entry)) p ⌝ }
+{
+    (word32(s, p) as u64) + 0x1_0000_0000 * (word32(s, p + 4) as u64)
+}
+
+// Whether the first four bytes are these.
+pub fn starts_with(s: &[u8], a: u8, b: u8, c: u8, d: u8) -> bool
+    requires { ⌜ 4 ≤ length (now s) ⌝ }
+    ensures { λ r. ⌜ r ≡ same 4 (take 4 (now (s .entry))) (a ∷ b ∷ c ∷ d ∷ []) ⌝ }
+{
+    if s[3] != d {
+        return false;
+    }
+    if s[2] != c {
+        return false;
+    }
+    if s[1] != b {
+        return false;
+    }
+    s[0] == a
 }

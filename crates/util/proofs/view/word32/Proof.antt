@@ -1,6 +1,6 @@
 -- `util::view::word32` meets its contract. Assumes nothing.
 use native.Mathlib.Omega.{arith}
-use Rattle.util.proofs.ViewLaws.{word-four}
+use Rattle.util.proofs.ViewLaws.{word-join}
 use borrow.Author.Needs.{needs}
 use Rattle.util.proofs.view.word32.Statement.{statement}
 use Rattle.util.proofs.view.word32.Tie as tie
@@ -29,7 +29,7 @@ add-result c = search needs
 returns : tie.Need-returns
 returns c =
     let a = c .before .before .before .args in
-    omega (arith, c .word162 .ensures, word-four (a .s .now) (a .p) (c .before .before .before .pre))
+    omega (arith, c .word162 .ensures, word-join 2 2 (a .s .now) (a .p) (omega arith))
 
 pub word32-spec : {M : Type 1} → statement M
 word32-spec =

@@ -1,0 +1,88 @@
+-- `animation::follow_objects` meets its contract. Assumes nothing.
+use borrow.Author.Needs.{needs}
+use Prim.Native.Nat.{_-_, _≤_}
+use mathlib.Core.Path.{_≡_, refl, _∙_}
+use native.Mathlib.Omega.{arith}
+use lib.ListN.{drop}
+use Rattle.util.specs.View.{little, view}
+use Rattle.util.proofs.Each.{rest}
+use Rattle.animation.specs.Animation.{object}
+use Rattle.animation.proofs.AnimationLaws.{leads-on, leads-out, leads-end}
+use Rattle.animation.proofs.follow_objects.Statement.{statement}
+use Rattle.animation.proofs.follow_objects.Tie as tie
+
+abbrev Inv-loop : tie.InvT-loop
+Inv-loop s t n reach far₀ i₀ far i = (i ≤ n) × (rest (object t) s (view 2 little n (drop 20 s)) 0 i far ≡ rest (object t) s (view 2 little n (drop 20 s)) 0 0 reach)
+
+abbrev μ-loop : tie.MeasureT-loop
+μ-loop s t n reach far₀ i₀ far i = n - i
+
+loop-holds : tie.Need-loop-holds Inv-loop μ-loop
+loop-holds c = (omega arith, refl)
+
+mul-word16 : tie.Need-mul-word16 Inv-loop μ-loop
+mul-word16 c = omega arith
+
+add-word16 : tie.Need-add-word16 Inv-loop μ-loop
+add-word16 c = omega arith
+
+word16-requires : tie.Need-word16-requires Inv-loop μ-loop
+word16-requires c κs = omega arith
+
+cast-follow-object : tie.Need-cast-follow-object Inv-loop μ-loop
+cast-follow-object c = omega arith
+
+follow-object-requires : tie.Need-follow-object-requires Inv-loop μ-loop
+follow-object-requires c κs = search needs
+
+enum-known-c : tie.Need-enum-known-c Inv-loop μ-loop
+enum-known-c c = search needs
+
+returns : tie.Need-returns Inv-loop μ-loop
+returns c =
+    let l = c .before .before .before .before .before .before in
+    let a = l .before .before .args in
+    let f = c .before .before .before in
+    leads-out (object (a .t)) (a .s .now) 20 (a .n) (l .loop .i) (l .loop .far) (omega arith) _ (f .before .word16 .ensures) _ (f .follow-object .ensures) _ (c .before .c .given .1) ∙ l .loop .inv .1
+
+enum-known-m : tie.Need-enum-known-m Inv-loop μ-loop
+enum-known-m c = search needs
+
+add-i : tie.Need-add-i Inv-loop μ-loop
+add-i c = omega arith
+
+loop-less : tie.Need-loop-less Inv-loop μ-loop
+loop-less c = omega arith
+
+loop-again : tie.Need-loop-again Inv-loop μ-loop
+loop-again c =
+    let l = c .before .before .before .before .before .before in
+    let a = l .before .before .args in
+    let f = c .before .before .before in
+    (omega arith, leads-on (object (a .t)) (a .s .now) 20 (a .n) (l .loop .i) (l .loop .far) (omega arith) _ (f .before .word16 .ensures) _ (f .follow-object .ensures) _ (c .before .m .given .1) ∙ l .loop .inv .1)
+
+returns-2 : tie.Need-returns-2 Inv-loop μ-loop
+returns-2 c =
+    let l = c .before .loop in
+    let a = c .before .before .before .args in
+    leads-end (object (a .t)) (a .s .now) 20 (a .n) (l .i) (l .far) (omega arith) ∙ l .inv .1
+
+pub follow-objects-spec : {M : Type 1} → statement M
+follow-objects-spec =
+    tie.close
+    (tie.spec
+    Inv-loop
+    μ-loop
+    loop-holds
+    mul-word16
+    add-word16
+    word16-requires
+    cast-follow-object
+    follow-object-requires
+    enum-known-c
+    returns
+    enum-known-m
+    add-i
+    loop-less
+    loop-again
+    returns-2)

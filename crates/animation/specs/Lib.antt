@@ -1,0 +1,2 @@
+pub mod Animation
+pub mod AnimationCode

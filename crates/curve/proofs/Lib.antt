@@ -1,0 +1,3 @@
+pub mod FloorLaws
+pub mod IndexLaws
+pub mod SampleLaws

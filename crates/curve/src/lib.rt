@@ -1,0 +1,166 @@
+// Curves as they stand in a section, and a curve's value between two of its values.
+use matrix::Col3;
+use matrix::Mat3;
+use util::fixed::Fix1_3_12;
+use util::fixed::Fix1_10_5;
+use util::fixed::Fix1_19_12;
+use util::view::word16;
+use util::view::word32;
+ghost use mathlib.Core.Path.{_≡_};
+ghost use Prim.Native.Nat.{_+_, _*_, _<_, _≤_};
+ghost use lib.Ieee.{Float};
+ghost use lib.ListN.{length, drop};
+ghost use Rattle.util.specs.Within.{Under};
+ghost use Rattle.curve.specs.Curve.{index, spotOf, mix, mixCol, mixMat, sampleAt, numberOf, scalarCurve, numberWidth, InsideList, Inside};
+ghost use Rattle.curve.specs.Curve as spec;
+
+// How the first number of a value is stored.
+pub enum Number {
+    Fix1_19_12,
+    Fix1_3_12,
+    Fix1_10_5,
+}
+
+// A list of values: its frames, where it stands, how many values it has, and the bytes of each.
+pub struct SampleList {
+    pub start: u16,
+    pub end: u16,
+    pub place: usize,
+    pub length: usize,
+    pub size: usize,
+}
+
+pub enum ScalarCurve {
+    None,
+    Constant(f64),
+    Samples(SampleList, Number),
+}
+
+// The whole number below x, from its bits.
+fn floor(x: f64) -> u64
+    requires { ⌜ Under x 65536 ⌝ }
+    ensures { λ r. ⌜ r ≡ spec.floor x ⌝ }
+{
+    let b = f64::to_bits(x);
+    let e = b >> 52;
+    if e < 1023 {
+        return 0;
+    }
+    let m = b & 0xf_ffff_ffff_ffff | 0x10_0000_0000_0000;
+    m >> (1075 - e)
+}
+
+// The whole number above x, which is x if x is whole.
+fn ceil(x: f64) -> u64
+    requires { ⌜ Under x 65536 ⌝ }
+    ensures { λ r. ⌜ r ≡ spec.ceil x ⌝ }
+{
+    let b = f64::to_bits(x);
+    if b == 0 {
+        return 0;
+    }
+    let e = b >> 52;
+    if e < 1023 {
+        return 1;
+    }
+    let m = b & 0xf_ffff_ffff_ffff | 0x10_0000_0000_0000;
+    let s = 1075 - e;
+    let lo = m >> s;
+    if lo << s == m { lo } else { lo + 1 }
+}
+
+// The values next to a frame, and how far it is from the first of them.
+pub struct Spot {
+    pub lo: u64,
+    pub hi: u64,
+    pub g: f64,
+}
+
+// Where a frame falls among n values.
+pub fn locate(start: u16, end: u16, frame: u16, n: u64) -> Spot
+    requires { ⌜ (start < frame) × (frame + 1 < end) × (1 ≤ n) × (n ≤ 65536) ⌝ }
+    ensures { λ r. ⌜ (r ≡ spotOf (index start end frame n)) × (r .lo ≤ r .hi) × (r .hi < n) ⌝ }
+{
+    let a = frame as u64 - start as u64;
+    let b = end as u64 - 1 - start as u64;
+    let i = (a as f64) / (b as f64) * ((n - 1) as f64);
+    let lo = floor(i);
+    let hi = ceil(i);
+    let g = i - lo as f64;
+    Spot { lo, hi, g }
+}
+
+// The value at g between two values.
+pub fn lerp(lo: f64, hi: f64, g: f64) -> f64
+    ensures { λ r. ⌜ r ≡ mix lo hi g ⌝ }
+{
+    lo * (1.0 - g) + hi * g
+}
+
+fn lerp_col(lo: Col3, hi: Col3, g: f64) -> Col3
+    ensures { λ r. ⌜ r ≡ mixCol lo hi g ⌝ }
+{
+    Col3 {
+        x: lerp(lo.x, hi.x, g),
+        y: lerp(lo.y, hi.y, g),
+        z: lerp(lo.z, hi.z, g),
+    }
+}
+
+// The same, entry by entry.
+pub fn lerp_mat(lo: Mat3, hi: Mat3, g: f64) -> Mat3
+    ensures { λ r. ⌜ r ≡ mixMat lo hi g ⌝ }
+{
+    Mat3 {
+        c0: lerp_col(lo.c0, hi.c0, g),
+        c1: lerp_col(lo.c1, hi.c1, g),
+        c2: lerp_col(lo.c2, hi.c2, g),
+    }
+}
+
+// The number of value k of a list that stands at `place`.
+fn value(s: &[u8], place: usize, size: usize, number: Number, k: usize) -> f64
+    requires { ⌜ place + size * k + numberWidth number ≤ length (now s) ⌝ }
+    ensures { λ r. ⌜ r ≡ numberOf number (drop (place + size * k) (now (s .entry))) ⌝ }
+{
+    let at = place + size * k;
+    match number {
+        Number::Fix1_19_12 => Fix1_19_12::read(word32(s, at)),
+        Number::Fix1_3_12 => Fix1_3_12::read(word16(s, at)),
+        Number::Fix1_10_5 => Fix1_10_5::read(word16(s, at)),
+    }
+}
+
+// A list that is not empty, at a frame.
+fn sample_list(s: &[u8], l: SampleList, number: Number, frame: u16) -> f64
+    requires { ⌜ (InsideList (now s) l number) × (1 ≤ l .length) ⌝ }
+    ensures { λ r. ⌜ ((default : Float) → r ≡ sampleAt mix default (scalarCurve (now (s .entry)) (ScalarCurve.Samples l number)) frame) ⌝ }
+{
+    if frame <= l.start {
+        return value(s, l.place, l.size, number, 0);
+    }
+    if l.end - 1 <= frame {
+        return value(s, l.place, l.size, number, l.length - 1);
+    }
+    let p = locate(l.start, l.end, frame, l.length as u64);
+    let lo = value(s, l.place, l.size, number, p.lo as usize);
+    let hi = value(s, l.place, l.size, number, p.hi as usize);
+    lerp(lo, hi, p.g)
+}
+
+// A curve at a frame: `default` where it has no value.
+pub fn sample_scalar(s: &[u8], curve: ScalarCurve, default: f64, frame: u16) -> f64
+    requires { ⌜ Inside (now s) curve ⌝ }
+    ensures { λ r. ⌜ r ≡ sampleAt mix default (scalarCurve (now (s .entry)) curve) frame ⌝ }
+{
+    match curve {
+        ScalarCurve::None => default,
+        ScalarCurve::Constant(v) => v,
+        ScalarCurve::Samples(l, number) => {
+            if l.length == 0 {
+                return default;
+            }
+            sample_list(s, l, number, frame)
+        }
+    }
+}

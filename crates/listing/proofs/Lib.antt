@@ -1,0 +1,2 @@
+pub mod WritesLaws
+pub mod SectionLaws

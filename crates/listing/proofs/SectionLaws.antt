@@ -1,0 +1,101 @@
+-- The lines of a section, from what the code finds in it. Assumes nothing.
+use Prim.Native.Nat.{ℕ, suc, _+_, _*_, _≤_, _<_}
+use mathlib.Core.List.{List, [], _∷_, _++_, append-assoc, append-nil}
+use mathlib.Core.Path.{_≡_, refl, sym, ap, _∙_}
+use native.Mathlib.Nat.{add-zero, zero-add, suc-add, add-suc}
+use native.Mathlib.Numerals.{add-one}
+use native.Mathlib.Omega.{arith}
+use borrow.Author.Tests.{lt-ltb, le-ltb}
+use lib.ListN.{length, take, drop, getD}
+use lib.Seq.{take-suc, take-all, length-take-le}
+use Rattle.util.specs.View.{view}
+use Rattle.util.specs.Reader.{Outcome, accepted, refused, run, done}
+use Rattle.util.proofs.Calls.{after, run-bind-as}
+use Rattle.util.proofs.ViewLaws.{view-length, view-there}
+use Rattle.info_block.specs.declared.InfoBlock.{InfoBlock}
+use Rattle.info_block.specs.InfoBlock.{blockAt}
+use Rattle.info_block.specs.Name.{Name}
+use Rattle.nitro.specs.declared.entry.EntryCheck.{EntryCheck}
+use Rattle.nitro.specs.Container.{Kind, allKinds, stamped, section, EntryRecord}
+use Rattle.nitro.specs.ContainerCode.{WholeHeader}
+use Rattle.nitro.specs.EntryCode.{checkOf}
+use Rattle.motion.specs.Calls.{check, answer}
+use Rattle.motion.specs.Listing.{decimal, hex, line, outcomeLines, entryLines, header, sectionLines, listing}
+use Rattle.listing.specs.Writes.{Wrote}
+use Rattle.listing.specs.Section.{checkLines, blockOutcome, headerFrom}
+use Rattle.listing.proofs.WritesLaws.{both, same}
+
+-- ---- an entry
+
+check-lines : (k : Kind) (o : Outcome EntryRecord) → checkLines k (checkOf o) ≡ outcomeLines k o
+unfolding outcomeLines
+check-lines k (accepted m e) = refl
+check-lines k (refused n) = refl
+
+pub one-entry : (k : Kind) (s : List ℕ) (i : ℕ) (name : Name) (found : EntryCheck) → found ≡ checkOf (answer (check i) s)
+    → line "entry" (decimal i) ++ line "name" (hex name) ++ checkLines k found ≡ entryLines k s i (name ∷ [])
+unfolding entryLines
+one-entry k s i name found e = ap (λ (t : List ℕ). line "entry" (decimal i) ++ line "name" (hex name) ++ t) (ap (checkLines k) e ∙ check-lines k (answer (check i) s)) ∙ sym (append-nil _)
+
+-- ---- the entries, one after the other
+
+entries-append : (k : Kind) (s : List ℕ) (i : ℕ) (x y : List Name) → entryLines k s i (x ++ y) ≡ entryLines k s i x ++ entryLines k s (i + length x) y
+unfolding entryLines
+entries-append k s i [] y = rw (add-zero i) refl
+entries-append k s i (name ∷ x) y = rw (entries-append k s (suc i) x y, add-suc i (length x), suc-add i (length x)) (simp append-assoc)
+
+module _ (k : Kind) (s : List ℕ) (p count : ℕ) where
+  abbrev names : List Name
+  names = view 16 (λ bs. bs) count (drop p s)
+
+  names-length : length names ≡ count
+  names-length = view-length 16 (λ bs. bs) count (drop p s)
+
+  abbrev nameAt : ℕ → Name
+  nameAt i = take 16 (drop (p + 16 * i) s)
+
+  one-more : (i : ℕ) → i < count → entryLines k s 0 (take (i + 1) names) ≡ entryLines k s 0 (take i names) ++ entryLines k s i (nameAt i ∷ [])
+  one-more i h =
+      let n = names-length in
+      let e : 0 + length (take i names) ≡ i = zero-add _ ∙ length-take-le i names (omega arith) in
+      let f : getD names i [] ≡ nameAt i = view-there 16 (λ bs. bs) count i p s [] h in
+      rw (add-one, take-suc names i [] (omega arith), entries-append, e, f) refl
+
+  pub entries-more : {l m r : List ℕ} {at mid end : ℕ} (i : ℕ) → i < count
+      → Wrote l m at mid (176 * i) (entryLines k s 0 (take i names)) → Wrote m r mid end 176 (entryLines k s i (nameAt i ∷ []))
+      → Wrote l r at end (176 * (i + 1)) (entryLines k s 0 (take (i + 1) names))
+  entries-more i h v w = same (sym (one-more i h)) (omega arith) (both v w)
+
+  pub all-entries : {l r : List ℕ} {at end : ℕ} (i : ℕ) → i ≤ count → count ≤ i
+      → Wrote l r at end (176 * i) (entryLines k s 0 (take i names)) → Wrote l r at end (176 * count) (entryLines k s 0 names)
+  all-entries i h g w = let n = names-length in same (ap (entryLines k s 0) (take-all i names (omega arith))) (omega arith) w
+
+-- ---- a section with a stamp
+
+module _ (s : List ℕ) (k : Kind) where
+  pub block-refused : (n : ℕ) → run section s 4 ≡ refused n → line "answer" (decimal n) ≡ sectionLines s (run (headerFrom k) s 4)
+  unfolding sectionLines after
+  block-refused n e = sym (ap (sectionLines s) (run-bind-as section (λ b. done (record { kind = k; block = b })) s 4 (refused n) e))
+
+  pub block-whole : (b : InfoBlock) → WholeHeader s b → sectionLines s (blockOutcome s k b) ≡ sectionLines s (run (headerFrom k) s 4)
+  unfolding run after
+  block-whole b w = sym (ap (sectionLines s) (run-bind-as section (λ b. done (record { kind = k; block = b })) s 4 (accepted (b .end) (blockAt s 4 b)) (w .reads)))
+
+-- ---- the listing
+
+pub too-long : (s : List ℕ) → 65536 < length s → line "answer" (decimal 13) ≡ listing s
+unfolding listing
+too-long s h = sym (rw (lt-ltb 65536 (length s) h) refl)
+
+module _ (s : List ℕ) (h : length s ≤ 65536) where
+  by-stamp : (o : Outcome Kind) → run (stamped allKinds) s 0 ≡ o → listing s ≡ sectionLines s (after o (λ j k. run (headerFrom k) s j))
+  unfolding listing header
+  by-stamp o e = rw (le-ltb 65536 (length s) h) (ap (sectionLines s) (run-bind-as (stamped allKinds) headerFrom s 0 o e))
+
+  pub no-stamp : (n : ℕ) → run (stamped allKinds) s 0 ≡ refused n → line "answer" (decimal n) ≡ listing s
+  unfolding sectionLines after
+  no-stamp n e = sym (by-stamp (refused n) e)
+
+  pub with-stamp : (k : Kind) → run (stamped allKinds) s 0 ≡ accepted 4 k → sectionLines s (run (headerFrom k) s 4) ≡ listing s
+  unfolding after
+  with-stamp k e = sym (by-stamp (accepted 4 k) e)

@@ -1,0 +1,3 @@
+// What motion-list prints of a section, as text in a lent slice.
+pub mod section;
+pub mod text;

@@ -1,0 +1,28 @@
+-- `material_animation::eval_uv_mat` meets its contract. Assumes nothing.
+use lib.Ieee.{ofBits}
+use Rattle.material_animation.proofs.MaterialLaws.{uv-at}
+use borrow.Author.Needs.{needs}
+use Rattle.material_animation.proofs.eval_uv_mat.Statement.{statement}
+use Rattle.material_animation.proofs.eval_uv_mat.Tie as tie
+
+sample-channel-requires : tie.Need-sample-channel-requires
+sample-channel-requires c κs = search needs
+
+sample-channel-requires-2 : tie.Need-sample-channel-requires-2
+sample-channel-requires-2 c κs = search needs
+
+from-translation-requires : tie.Need-from-translation-requires
+from-translation-requires c κs = search needs
+
+returns : tie.Need-returns
+unfolding ofBits
+returns c =
+    let v = c .before in
+    let u = v .before in
+    let a = u .before .before .args in
+    uv-at (a .s .now) (a .track) (a .frame) _ _ (u .sample-channel .ensures) (v .sample-channel2 .ensures) _ (c .from-translation .ensures)
+
+pub eval-uv-mat-spec : {M : Type 1} → statement M
+eval-uv-mat-spec =
+    tie.close
+    (tie.spec sample-channel-requires sample-channel-requires-2 from-translation-requires returns)

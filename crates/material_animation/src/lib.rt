@@ -1,0 +1,149 @@
+// An SRT0 entry: material animations.
+use curve::Number;
+use curve::SampleList;
+use curve::ScalarCurve;
+use curve::sample_scalar;
+use info_block::BlockRead;
+use info_block::InfoBlock;
+use matrix::Mat4;
+use matrix::from_translation;
+use util::cur::Reach;
+use util::cur::greater;
+use util::view::byte;
+use util::view::word16;
+use util::view::word32;
+ghost use mathlib.Core.List.{List};
+ghost use mathlib.Core.Path.{_≡_};
+ghost use Prim.Native.Nat.{ℕ, _+_, _*_, _<_, _≤_};
+ghost use lib.ListN.{length, take, drop};
+ghost use lib.Ieee.{Float};
+ghost use Rattle.matrix.specs.Matrix.{f0};
+ghost use Rattle.util.specs.Reader.{accepted, run, each, reachOf};
+ghost use Rattle.util.specs.View.{view};
+ghost use Rattle.curve.specs.Curve.{Curve, mix, sampleAt};
+ghost use Rattle.material_animation.specs.MaterialAnimation.{channel, five, uvMatrixAt, channelMeans, ChannelInside, TrackIs, MaterialIs};
+
+// What is known of a whole entry: its frames, its tracks and its reach.
+pub struct MaterialAnimation {
+    pub frames: u16,
+    pub block: InfoBlock,
+    pub reach: usize,
+}
+
+pub enum MatAnimRead {
+    Whole(MaterialAnimation),
+    Refused(u8),
+}
+
+// A channel's curve, and the reach after it.
+pub enum ChannelRead {
+    Whole(ScalarCurve, usize),
+    Refused(u8),
+}
+
+// Channel n of the track whose datum stands at `track`, after parts that reach as far as `reach`.
+pub fn read_channel(s: &[u8], track: usize, n: usize, reach: usize) -> ChannelRead
+    requires { ⌜ (track + 40 ≤ length (now s)) × (n < 5) ⌝ }
+    ensures { λ r. ⌜ (run (channel (take 40 (drop track (now (s .entry)))) n) (now (s .entry)) reach ≡ channelMeans (now (s .entry)) r) × ChannelInside (now (s .entry)) r ⌝ }
+{
+    if n < 3 {
+        return ChannelRead::Whole(ScalarCurve::None, reach);
+    }
+    let at = track + 8 * n;
+    if byte(s, at + 3) != 16 {
+        return ChannelRead::Whole(ScalarCurve::None, reach);
+    }
+    let frames = word16(s, at);
+    let place = word32(s, at + 4) as usize;
+    let length = frames as usize;
+    let end = place + 2 * length;
+    if s.len() < end {
+        return ChannelRead::Refused(2);
+    }
+    ChannelRead::Whole(
+        ScalarCurve::Samples(
+            SampleList {
+                start: 0,
+                end: frames,
+                place,
+                length,
+                size: 2,
+            },
+            Number::Fix1_10_5,
+        ),
+        greater(reach, end),
+    )
+}
+
+// How far the channels of a track reach: 3 and 4 alone can carry a list.
+fn follow_channels(s: &[u8], track: usize, reach: usize) -> Reach
+    requires { ⌜ track + 40 ≤ length (now s) ⌝ }
+    ensures { λ r. ⌜ r ≡ reachOf (run (each (channel (take 40 (drop track (now (s .entry))))) five) (now (s .entry)) reach) ⌝ }
+{
+    match read_channel(s, track, 3, reach) {
+        ChannelRead::Whole(_, far) => match read_channel(s, track, 4, far) {
+            ChannelRead::Whole(_, end) => Reach::Whole(end),
+            ChannelRead::Refused(n) => Reach::Refused(n),
+        },
+        ChannelRead::Refused(n) => Reach::Refused(n),
+    }
+}
+
+// How far the tracks reach whose datums stand at `datums`.
+fn follow_tracks(s: &[u8], datums: usize, count: usize, reach: usize) -> Reach
+    requires { ⌜ datums + 40 * count ≤ length (now s) ⌝ }
+    ensures { λ r. ⌜ r ≡ reachOf (run (each (λ track. each (channel track) five) (view 40 (λ bs. bs) count (drop datums (now (s .entry))))) (now (s .entry)) reach) ⌝ }
+{
+    let mut far = reach;
+    let mut i = 0usize;
+    while i < count {
+        match follow_channels(s, datums + 40 * i, far) {
+            Reach::Whole(m) => far = m,
+            Reach::Refused(n) => return Reach::Refused(n),
+        }
+        i += 1;
+    }
+    Reach::Whole(far)
+}
+
+// An entry, read whole.
+pub fn read_mat_anim(s: &[u8]) -> MatAnimRead
+    ensures { λ r. ⌜ MaterialIs (now (s .entry)) r ⌝ }
+{
+    if s.len() < 8 {
+        return MatAnimRead::Refused(2);
+    }
+    let block = match info_block::read(s, 8, 40) {
+        BlockRead::Whole(b) => b,
+        BlockRead::Refused(n) => return MatAnimRead::Refused(n),
+    };
+    match follow_tracks(s, block.datums, block.count, block.end) {
+        Reach::Whole(reach) => MatAnimRead::Whole(MaterialAnimation {
+            frames: word16(s, 4),
+            block,
+            reach,
+        }),
+        Reach::Refused(n) => MatAnimRead::Refused(n),
+    }
+}
+
+// Channel n of the track whose datum stands at `track`, at a frame: 0 where it has no value.
+fn sample_channel(s: &[u8], track: usize, n: usize, frame: u16) -> f64
+    requires { ⌜ (track + 40 ≤ length (now s)) × (n < 5) ⌝ }
+    ensures { λ r. ⌜ ((m : ℕ) (curve : Curve Float) → run (channel (take 40 (drop track (now (s .entry)))) n) (now (s .entry)) 0 ≡ accepted m curve → r ≡ sampleAt mix f0 curve frame) ⌝ }
+{
+    match read_channel(s, track, n, 0) {
+        ChannelRead::Whole(curve, _) => sample_scalar(s, curve, 0.0, frame),
+        ChannelRead::Refused(_) => 0.0,
+    }
+}
+
+// A track's matrix at a frame: its channels 3 and 4 move the texture.
+pub fn eval_uv_mat(s: &[u8], track: usize, frame: u16) -> Mat4
+    requires { ⌜ track + 40 ≤ length (now s) ⌝ }
+    ensures { λ r. ⌜ ((channels : List (Curve Float)) → TrackIs (now (s .entry)) track channels → r ≡ uvMatrixAt channels frame) ⌝ }
+{
+    let u = sample_channel(s, track, 3, frame);
+    let v = sample_channel(s, track, 4, frame);
+    from_translation(u, v, 0.0)
+}

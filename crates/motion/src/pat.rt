@@ -1,0 +1,99 @@
+// The calls on an entry of a PAT0 section.
+use crate::answers::ChoiceAnswer;
+use crate::answers::ListAnswer;
+use crate::answers::ListPlace;
+use crate::opened::PatternOpen;
+use crate::opened::open_pattern;
+use nitro::entry::NameAnswer;
+use nitro::entry::name_in;
+use pattern::read_track_keys;
+use pattern::sample;
+ghost use mathlib.Core.Path.{_≡_};
+ghost use Rattle.nitro.specs.Container.{pat};
+ghost use Rattle.motion.specs.Calls.{on, textureNames, paletteNames, patternName, chosen, answer};
+ghost use Rattle.motion.specs.Calls as calls;
+ghost use Rattle.motion.specs.Answers.{listOf, nameAnswerOf, choiceOf};
+ghost use Rattle.motion.specs.PatCode.{KeysAre};
+
+// The list of the texture names.
+pub fn texture_names(s: &[u8], entry: usize) -> ListAnswer
+    ensures { λ r. ⌜ r ≡ listOf (answer (on pat entry textureNames) (now (s .entry))) ⌝ }
+{
+    match open_pattern(s, entry) {
+        PatternOpen::Refused(n) => ListAnswer::Refused(n),
+        PatternOpen::At(e, a) => ListAnswer::List(ListPlace {
+            place: e.offset + a.textures.place,
+            length: a.textures.count,
+        }),
+    }
+}
+
+// The list of the palette names.
+pub fn palette_names(s: &[u8], entry: usize) -> ListAnswer
+    ensures { λ r. ⌜ r ≡ listOf (answer (on pat entry paletteNames) (now (s .entry))) ⌝ }
+{
+    match open_pattern(s, entry) {
+        PatternOpen::Refused(n) => ListAnswer::Refused(n),
+        PatternOpen::At(e, a) => ListAnswer::List(ListPlace {
+            place: e.offset + a.palettes.place,
+            length: a.palettes.count,
+        }),
+    }
+}
+
+// Where the keys of a track stand.
+fn find_keys(s: &[u8], entry: usize, track: usize) -> ListAnswer
+    ensures { λ r. ⌜ KeysAre (now (s .entry)) entry track r ⌝ }
+{
+    match open_pattern(s, entry) {
+        PatternOpen::Refused(n) => ListAnswer::Refused(n),
+        PatternOpen::At(e, a) => {
+            if a.block.count <= track {
+                return ListAnswer::Refused(9);
+            }
+            let keys = read_track_keys(s, e.offset + (a.block.datums + 8 * track));
+            ListAnswer::List(ListPlace {
+                place: e.offset + keys.place,
+                length: keys.count,
+            })
+        }
+    }
+}
+
+// The list of a track's keys.
+pub fn keys(s: &[u8], entry: usize, track: usize) -> ListAnswer
+    ensures { λ r. ⌜ r ≡ listOf (answer (on pat entry (calls.keys track)) (now (s .entry))) ⌝ }
+{
+    find_keys(s, entry, track)
+}
+
+// The name of a track.
+pub fn track_name(s: &[u8], entry: usize, track: usize) -> NameAnswer
+    ensures { λ r. ⌜ r ≡ nameAnswerOf (answer (on pat entry (patternName track)) (now (s .entry))) ⌝ }
+{
+    match open_pattern(s, entry) {
+        PatternOpen::Refused(n) => NameAnswer::Refused(n),
+        PatternOpen::At(e, a) => {
+            let block = a.block;
+            name_in(s, e.offset, block, track)
+        }
+    }
+}
+
+// The texture and the palette of a track at a frame.
+pub fn choice(s: &[u8], entry: usize, track: usize, frame: u16) -> ChoiceAnswer
+    ensures { λ r. ⌜ r ≡ choiceOf (answer (on pat entry (chosen track frame)) (now (s .entry))) ⌝ }
+{
+    match find_keys(s, entry, track) {
+        ListAnswer::Refused(n) => ChoiceAnswer::Refused(n),
+        ListAnswer::List(l) => {
+            if l.length == 0 {
+                return ChoiceAnswer::Refused(10);
+            }
+            let key = sample(s, l.place, l.length, frame);
+            let texture = key.texture_idx;
+            let palette = key.palette_idx;
+            ChoiceAnswer::Chosen(texture, palette)
+        }
+    }
+}

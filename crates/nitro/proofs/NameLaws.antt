@@ -1,0 +1,74 @@
+-- Names compared and found. Assumes nothing.
+use Prim.Native.Nat.{ℕ, suc, _+_, _-_, _*_, _≤_, _<_}
+use mathlib.Core.Bool.{Bool, true, false, cond}
+use mathlib.Core.List.{List, [], _∷_}
+use mathlib.Core.Logic.{inl}
+use mathlib.Core.Path.{_≡_, refl, sym, ap, subst, _∙_}
+use native.Mathlib.Numerals.{add-one}
+use native.Mathlib.Omega.{arith}
+use borrow.Author.Tests.{eq-eqb, ne-eqb}
+use lib.ListN.{length, take, drop, getD, drop-of-length-le}
+use lib.Seq.{drop-cons, getD-take, getD-drop}
+use Rattle.util.specs.View.{view, same}
+use Rattle.util.proofs.ViewLaws.{view-length, view-there}
+use Rattle.info_block.specs.Name.{Name, equal, named}
+use Rattle.nitro.specs.NameCode.{OneOf}
+
+-- ---- two names, from the last byte on
+
+module _ (a s : List ℕ) (p j : ℕ) (h : j < 16) where
+  byte-of : getD (take 16 (drop p s)) j 0 ≡ getD s (p + j) 0
+  byte-of = getD-take 16 (drop p s) j 0 h ∙ getD-drop p s j 0
+
+  pub bytes-differ : (getD a j 0 ≡ getD s (p + j) 0 → ⊥) → same (suc j) a (take 16 (drop p s)) ≡ false
+  unfolding same
+  bytes-differ e = rw (byte-of, ne-eqb (getD a j 0) (getD s (p + j) 0) e) refl
+
+  pub bytes-same : getD a j 0 ≡ getD s (p + j) 0 → same (suc j) a (take 16 (drop p s)) ≡ same j a (take 16 (drop p s))
+  unfolding same
+  bytes-same e = rw (byte-of, eq-eqb (getD a j 0) (getD s (p + j) 0) e) refl
+
+-- ---- a name among names
+
+module _ (name : Name) (s : List ℕ) (names count : ℕ) where
+  abbrev pub all : List Name
+  all = view 16 (λ bs. bs) count (drop names s)
+
+  -- what is left from index i on
+  abbrev pub left : ℕ → List ℕ
+  left i = named name i (drop i all)
+
+  module _ (i : ℕ) (h : i < count) (b : Bool) (e : b ≡ equal name (take 16 (drop (names + 16 * i) s))) where
+    unroll : left i ≡ cond b (i ∷ left (i + 1)) (left (i + 1))
+    unfolding named
+    unroll =
+        let l : i < length all = subst (λ (n : ℕ). i < n) (sym (view-length 16 (λ bs. bs) count (drop names s))) h in
+        rw (drop-cons all i [] l, view-there 16 (λ bs. bs) count i names s [] h, sym e, add-one i) refl
+
+    pub found-here : b ≡ true → left i ≡ i ∷ left (i + 1)
+    found-here q = unroll ∙ ap (λ (x : Bool). cond x (i ∷ left (i + 1)) (left (i + 1))) q
+
+    pub not-here : b ≡ false → left i ≡ left (i + 1)
+    not-here q = unroll ∙ ap (λ (x : Bool). cond x (i ∷ left (i + 1)) (left (i + 1))) q
+
+  pub none-left : (i : ℕ) → count ≤ i → left i ≡ []
+  unfolding named
+  none-left i h = let l : length all ≤ i = subst (λ (n : ℕ). n ≤ i) (sym (view-length 16 (λ bs. bs) count (drop names s))) h in rw (drop-of-length-le all l) refl
+
+pub one-of-head : (j : ℕ) (is rest : List ℕ) → is ≡ j ∷ rest → OneOf j is
+one-of-head j is rest e = subst (OneOf j) (sym e) (inl refl)
+
+-- one byte of the loop, at k - 1
+module _ (a s : List ℕ) (p k : ℕ) (low : 0 < k) (high : k ≤ 16) where
+  back : suc (k - 1) ≡ k
+  back = omega arith
+
+  pub loop-differ : (getD a (k - 1) 0 ≡ getD s (p + (k - 1)) 0 → ⊥) → same k a (take 16 (drop p s)) ≡ false
+  loop-differ e = subst (λ (n : ℕ). same n a (take 16 (drop p s)) ≡ false) back (bytes-differ a s p (k - 1) (omega arith) e)
+
+  pub loop-same : getD a (k - 1) 0 ≡ getD s (p + (k - 1)) 0 → same (k - 1) a (take 16 (drop p s)) ≡ same k a (take 16 (drop p s))
+  loop-same e = sym (bytes-same a s p (k - 1) (omega arith) e) ∙ ap (λ (n : ℕ). same n a (take 16 (drop p s))) back
+
+pub loop-done : (a b : List ℕ) (k : ℕ) → k ≤ 0 → same k a b ≡ true
+unfolding same
+loop-done a b k h = let z : k ≡ 0 = omega arith in rw z refl

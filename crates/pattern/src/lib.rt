@@ -1,0 +1,226 @@
+// A PAT0 entry: pattern animations. A slice that is read here starts at the entry.
+use info_block::BlockRead;
+use info_block::InfoBlock;
+use info_block::read;
+use util::cur::Reach;
+use util::cur::greater;
+use util::view::byte;
+use util::view::word16;
+use util::view::word32;
+ghost use mathlib.Core.Path.{_≡_};
+ghost use Prim.Native.Nat.{_+_, _*_, _<_, _≤_};
+ghost use lib.ListN.{length, take, drop};
+ghost use Rattle.util.specs.View.{wordAt, view};
+ghost use Rattle.util.specs.Reader.{run, each, reachOf};
+ghost use Rattle.pattern.specs.Pattern.{Key, keyOf, inside, track, firstLater, choice, asKey, NamesAt, PatternIs};
+
+// An index of the texture names.
+pub struct TextureIdx(pub u8);
+
+// An index of the palette names.
+pub struct PaletteIdx(pub u8);
+
+pub struct PatternKeyframe {
+    pub frame: u16,
+    pub texture_idx: TextureIdx,
+    pub palette_idx: PaletteIdx,
+}
+
+// Where a list of names stands, and how many it has.
+pub struct NameList {
+    pub place: usize,
+    pub count: usize,
+}
+
+// Where a track's keys stand, and how many it has.
+pub struct KeyList {
+    pub place: usize,
+    pub count: usize,
+}
+
+// What is known of a whole entry: its frames, its name lists, its tracks and its reach.
+pub struct Pattern {
+    pub frames: u16,
+    pub textures: NameList,
+    pub palettes: NameList,
+    pub block: InfoBlock,
+    pub reach: usize,
+}
+
+pub enum PatternRead {
+    Whole(Pattern),
+    Refused(u8),
+}
+
+// Key k of the keys at `place`.
+fn key_at(s: &[u8], place: usize, k: usize) -> PatternKeyframe
+    requires { ⌜ place + 4 * k + 4 ≤ length (now s) ⌝ }
+    ensures { λ r. ⌜ asKey r ≡ keyOf (take 4 (drop (place + 4 * k) (now (s .entry)))) ⌝ }
+{
+    let at = place + 4 * k;
+    PatternKeyframe {
+        frame: word16(s, at),
+        texture_idx: TextureIdx(byte(s, at + 2)),
+        palette_idx: PaletteIdx(byte(s, at + 3)),
+    }
+}
+
+// Whether each key's texture and palette stand in their own lists.
+fn keys_inside(s: &[u8], place: usize, count: usize, textures: usize, palettes: usize) -> bool
+    requires { ⌜ place + 4 * count ≤ length (now s) ⌝ }
+    ensures { λ r. ⌜ r ≡ inside textures palettes (view 4 keyOf count (drop place (now (s .entry)))) ⌝ }
+{
+    let mut i: usize = 0;
+    while i < count {
+        let key = key_at(s, place, i);
+        if textures <= key.texture_idx.0 as usize {
+            return false;
+        }
+        if palettes <= key.palette_idx.0 as usize {
+            return false;
+        }
+        i += 1;
+    }
+    true
+}
+
+// The keys of the track whose datum stands at `datum`.
+pub fn read_track_keys(s: &[u8], datum: usize) -> KeyList
+    requires { ⌜ datum + 8 ≤ length (now s) ⌝ }
+    ensures { λ r. ⌜ (r .place ≡ wordAt 2 (now (s .entry)) (datum + 6)) × (r .count ≡ wordAt 4 (now (s .entry)) datum) × (r .place < 65536) × (r .count < 4294967296) ⌝ }
+{
+    KeyList {
+        place: word16(s, datum + 6) as usize,
+        count: word32(s, datum) as usize,
+    }
+}
+
+// The track whose datum stands at `datum`, after parts that reach as far as `reach`.
+fn read_track(s: &[u8], datum: usize, textures: usize, palettes: usize, reach: usize) -> Reach
+    requires { ⌜ datum + 8 ≤ length (now s) ⌝ }
+    ensures { λ r. ⌜ r ≡ reachOf (run (track textures palettes (take 8 (drop datum (now (s .entry))))) (now (s .entry)) reach) ⌝ }
+{
+    let keys = read_track_keys(s, datum);
+    let place = keys.place;
+    let count = keys.count;
+    let end = place + 4 * count;
+    if s.len() < end {
+        return Reach::Refused(2);
+    }
+    if keys_inside(s, place, count, textures, palettes) {
+        Reach::Whole(greater(reach, end))
+    } else {
+        Reach::Refused(8)
+    }
+}
+
+// The tracks of the `count` datums at `datums`, one after the other.
+fn follow_tracks(
+    s: &[u8],
+    datums: usize,
+    count: usize,
+    textures: usize,
+    palettes: usize,
+    reach: usize,
+) -> Reach
+    requires { ⌜ datums + 8 * count ≤ length (now s) ⌝ }
+    ensures { λ r. ⌜ r ≡ reachOf (run (each (track textures palettes) (view 8 (λ bs. bs) count (drop datums (now (s .entry))))) (now (s .entry)) reach) ⌝ }
+{
+    let mut far = reach;
+    let mut i: usize = 0;
+    while i < count {
+        match read_track(s, datums + 8 * i, textures, palettes, far) {
+            Reach::Whole(m) => {
+                far = m;
+            }
+            Reach::Refused(n) => {
+                return Reach::Refused(n);
+            }
+        }
+        i += 1;
+    }
+    Reach::Whole(far)
+}
+
+// The list of names whose count stands at c and whose offset at p.
+fn read_names(s: &[u8], c: usize, p: usize) -> NameList
+    requires { ⌜ (c + 1 ≤ length (now s)) × (p + 2 ≤ length (now s)) ⌝ }
+    ensures { λ r. ⌜ NamesAt (now (s .entry)) c p r ⌝ }
+{
+    NameList {
+        place: word16(s, p) as usize,
+        count: byte(s, c) as usize,
+    }
+}
+
+// The entry that s starts with.
+pub fn read_pattern(s: &[u8]) -> PatternRead
+    ensures { λ r. ⌜ PatternIs (now (s .entry)) r ⌝ }
+{
+    let n = s.len();
+    if n < 12 {
+        return PatternRead::Refused(2);
+    }
+    let frames = word16(s, 4);
+    let textures = read_names(s, 6, 8);
+    let palettes = read_names(s, 7, 10);
+    let texture_end = textures.place + 16 * textures.count;
+    let palette_end = palettes.place + 16 * palettes.count;
+    if n < texture_end {
+        return PatternRead::Refused(2);
+    }
+    if n < palette_end {
+        return PatternRead::Refused(2);
+    }
+    let block = match read(s, 12, 8) {
+        BlockRead::Whole(block) => block,
+        BlockRead::Refused(e) => {
+            return PatternRead::Refused(e);
+        }
+    };
+    let start = greater(greater(greater(12, texture_end), palette_end), block.end);
+    match follow_tracks(
+        s,
+        block.datums,
+        block.count,
+        textures.count,
+        palettes.count,
+        start,
+    ) {
+        Reach::Whole(reach) => PatternRead::Whole(Pattern {
+            frames,
+            textures,
+            palettes,
+            block,
+            reach,
+        }),
+        Reach::Refused(e) => PatternRead::Refused(e),
+    }
+}
+
+// The index of the first key of a later frame, or how many keys there are if none is later.
+fn first_later(s: &[u8], place: usize, count: usize, frame: u16) -> usize
+    requires { ⌜ place + 4 * count ≤ length (now s) ⌝ }
+    ensures { λ r. ⌜ (r ≡ firstLater (view 4 keyOf count (drop place (now (s .entry)))) frame) × (r ≤ count) ⌝ }
+{
+    let mut i: usize = 0;
+    while i < count {
+        if frame < key_at(s, place, i).frame {
+            return i;
+        }
+        i += 1;
+    }
+    i
+}
+
+// The key that holds at a frame, of the `count` keys at `place`: the one before the first of a later frame, which is key 0 if that is first.
+pub fn sample(s: &[u8], place: usize, count: usize, frame: u16) -> PatternKeyframe
+    requires { ⌜ (place + 4 * count ≤ length (now s)) × (1 ≤ count) ⌝ }
+    ensures { λ r. ⌜ ((default : Key) → asKey r ≡ choice (view 4 keyOf count (drop place (now (s .entry)))) default frame) ⌝ }
+{
+    let later = first_later(s, place, count, frame);
+    if later == 0 {
+        return key_at(s, place, 0);
+    }
+    key_at(s, place, later - 1)
+}

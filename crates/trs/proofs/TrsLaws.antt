@@ -1,0 +1,114 @@
+-- Objects of a whole entry, and records of curves. Assumes nothing.
+use Prim.Native.Nat.{ℕ, suc, _+_, _*_, _≤_, _<_}
+use mathlib.Core.Bool.{Bool, true, false}
+use mathlib.Core.List.{List, [], _∷_, map}
+use mathlib.Core.Path.{_≡_, refl, sym, ap, subst, _∙_}
+use native.Mathlib.Omega.{arith}
+use lib.ListN.{length, take, drop, getD}
+use Rattle.util.specs.Bits.{bits, bit}
+use Rattle.util.specs.Fixed.{fix1-3-12, fixed}
+use Rattle.util.specs.View.{little, wordAt, view}
+use Rattle.util.specs.Reader.{accepted, run}
+use Rattle.util.proofs.Each.{each-read}
+use Rattle.util.proofs.ViewLaws.{view-length, view-there, word-part}
+use Rattle.curve.specs.declared.ScalarCurve.{ScalarCurve}
+use Rattle.curve.specs.Curve.{none, numberOf, scalarCurve, recorded, Inside}
+use Rattle.rotation.specs.Rotation.{pivotMat, basisMat}
+use Rattle.animation.specs.declared.Animation.{Animation as Known}
+use Rattle.animation.specs.declared.Tables.{Tables}
+use Rattle.animation.specs.declared.TRSCurves.{TRSCurves}
+use Rattle.animation.specs.declared.ObjectRead.{ObjectRead}
+use Rattle.curve.specs.declared.SampleList.{SampleList}
+use Rattle.animation.specs.declared.RotationCurve.{RotationCurve}
+use Rattle.animation.specs.Animation.{Object, noAxes, object, pivotOf, basisOf}
+use Rattle.animation.specs.AnimationCode.{tablesAt, objectCurves, ObjectReads, WholeAnimation, matrixOf, referenceEnd, rotationCurve}
+use Rattle.trs.specs.declared.RotationRecord.{RotationRecord}
+use Rattle.trs.specs.declared.ScalarRecord.{ScalarRecord}
+use Rattle.trs.specs.Trs.{ObjectStands, listRecord, scalarRecord, recordedOf, rotationOf, RoomFor}
+
+-- object o of a whole entry is read whole
+pub object-whole : (s : List ℕ) (a : Known) (w : WholeAnimation s a) (o : ℕ) (d : Object) → o < a .objects → (k : ℕ) × (run (object (tablesAt s) (wordAt 2 s (20 + 2 * o))) s 0 ≡ accepted k (getD (w .held .objects) o d))
+object-whole s a w o d h =
+    let offsets = view 2 little (a .objects) (drop 20 s) in
+    let r = w .objects in
+    let l : o < length offsets = subst (λ (n : ℕ). o < n) (sym (view-length 2 little (a .objects) (drop 20 s))) h in
+    let x = each-read (object (tablesAt s)) s offsets 0 (r .0) (w .held .objects) (r .1) .1 o 0 d l in
+    (x .0, subst (λ (p : ℕ). run (object (tablesAt s) p) s 0 ≡ accepted (x .0) (getD (w .held .objects) o d)) (view-there 2 little (a .objects) o 20 s 0 h) (x .1))
+
+-- and so are the curves that stand there
+pub same-object : (s : List ℕ) (a : Known) (w : WholeAnimation s a) (o : ℕ) (d : Object) → o < a .objects → (c : TRSCurves) → ObjectStands s o c → objectCurves (tablesAt s) s c ≡ getD (w .held .objects) o d
+same-object s a w o d h c x = let y = object-whole s a w o d h in let e = sym (x .reads) ∙ y .1 in cc
+
+-- what reading an object found, in a whole entry
+module _ (s : List ℕ) (a : Known) (w : WholeAnimation s a) (o : ℕ) (h : o < a .objects) (p : ℕ) (e : p ≡ wordAt 2 s (20 + 2 * o)) (r : ObjectRead) (q : ObjectReads (object (a .tables) p) (a .tables) s 0 r) where
+  here : ObjectReads (object (tablesAt s) (wordAt 2 s (20 + 2 * o))) (tablesAt s) s 0 r
+  here = subst (λ (x : ℕ). ObjectReads (object (tablesAt s) x) (tablesAt s) s 0 r) e (subst (λ (t : Tables). ObjectReads (object t p) t s 0 r) (w .tables) q)
+
+  pub object-read : (c : TRSCurves) (m : ℕ) → r ≡ ObjectRead.Whole c m → ObjectStands s o c
+  object-read c m k = let x = subst (ObjectReads (object (tablesAt s) (wordAt 2 s (20 + 2 * o))) (tablesAt s) s 0) k here in record { reach = m; reads = x .reads; inside = x .inside }
+
+  pub never-refused : (n : ℕ) → r ≡ ObjectRead.Refused n → ⊥
+  never-refused n k =
+      let x = subst (ObjectReads (object (tablesAt s) (wordAt 2 s (20 + 2 * o))) (tablesAt s) s 0) k here in
+      let y = object-whole s a w o (record { translation = noAxes; rotation = none; scale = noAxes }) h in
+      let z : _≡_ {A = ℕ} 0 1 = cc in
+      omega arith
+
+-- a curve's record is the specification's
+pub recorded-scalar : (s : List ℕ) (c : ScalarCurve) (entry : ℕ) → scalarRecord c entry ≡ recordedOf (recorded entry (scalarCurve s c))
+unfolding recorded
+recorded-scalar s ScalarCurve.None entry = refl
+recorded-scalar s (ScalarCurve.Constant v) entry = refl
+recorded-scalar s (ScalarCurve.Samples l number) entry = ap (λ (n : ℕ). ScalarRecord.List (record { start = l .start; end = l .end; place = entry + l .place; length = n; size = l .size })) (sym (view-length (l .size) (numberOf number) (l .length) (drop (l .place) s)))
+
+-- a curve inside a slice has room for its place
+pub room-in : (s : List ℕ) (c : ScalarCurve) (entry : ℕ) → Inside s c → entry + length s < 18446744073709551616 → RoomFor c entry
+room-in s ScalarCurve.None entry h l = tt
+room-in s (ScalarCurve.Constant v) entry h l = tt
+room-in s (ScalarCurve.Samples x n) entry h l = let e = h .ends in omega arith
+
+-- ---- rotations
+
+add-zero : (n : ℕ) → n + 0 ≡ n
+add-zero n = omega arith
+
+pub pivot-there : (s : List ℕ) (p : ℕ) → pivotOf (take 6 (drop p s)) ≡ pivotMat (bits (wordAt 2 s p) 0 4) (bits (wordAt 2 s p) 4 8) (fixed fix1-3-12 (wordAt 2 s (p + 2))) (fixed fix1-3-12 (wordAt 2 s (p + 4)))
+unfolding pivotOf
+pivot-there s p = rw (word-part 2 6 p 0 s (omega arith), word-part 2 6 p 2 s (omega arith), word-part 2 6 p 4 s (omega arith), add-zero p) refl
+
+pub basis-there : (s : List ℕ) (p : ℕ) → basisOf (take 10 (drop p s)) ≡ basisMat (wordAt 2 s p) (wordAt 2 s (p + 2)) (wordAt 2 s (p + 4)) (wordAt 2 s (p + 6)) (wordAt 2 s (p + 8))
+unfolding basisOf
+basis-there s p = rw (word-part 2 10 p 0 s (omega arith), word-part 2 10 p 2 s (omega arith), word-part 2 10 p 4 s (omega arith), word-part 2 10 p 6 s (omega arith), word-part 2 10 p 8 s (omega arith), add-zero p) refl
+
+-- the record that a reference leads to, by its bit 15
+module _ (t : Tables) (s : List ℕ) (x i : ℕ) (e : i ≡ bits x 0 15) (b : Bool) (k : b ≡ bit x 15) where
+  pub pivot-room : b ≡ true → referenceEnd t x ≤ length s → t .pivot + 6 * i + 6 ≤ length s
+  pivot-room h r = rw e (subst (λ (n : ℕ). n ≤ length s) (rw (sym k ∙ h) refl) r)
+
+  pub basis-room : b ≡ false → referenceEnd t x ≤ length s → t .basis + 10 * i + 10 ≤ length s
+  basis-room h r = rw e (subst (λ (n : ℕ). n ≤ length s) (rw (sym k ∙ h) refl) r)
+
+  pub pivot-matrix : b ≡ true → pivotOf (take 6 (drop (t .pivot + 6 * i) s)) ≡ matrixOf t s x
+  unfolding matrixOf
+  pivot-matrix h = rw (e, sym k ∙ h) refl
+
+  pub basis-matrix : b ≡ false → basisOf (take 10 (drop (t .basis + 10 * i) s)) ≡ matrixOf t s x
+  unfolding matrixOf
+  basis-matrix h = rw (e, sym k ∙ h) refl
+
+map-length : {A B : Type 0} (f : A → B) (xs : List A) → length (map f xs) ≡ length xs
+map-length f [] = refl
+map-length f (x ∷ xs) = ap suc (map-length f xs)
+
+-- the records of a rotation curve are the specification's
+pub none-recorded : (t : Tables) (s : List ℕ) (entry : ℕ) (c : RotationCurve) → c ≡ RotationCurve.None → RotationRecord.None ≡ rotationOf (recorded entry (rotationCurve t s c))
+unfolding recorded
+none-recorded t s entry c h = rw h refl
+
+pub constant-recorded : (t : Tables) (s : List ℕ) (entry : ℕ) (c : RotationCurve) (x : ℕ) → c ≡ RotationCurve.Constant x → RotationRecord.Constant (matrixOf t s x) ≡ rotationOf (recorded entry (rotationCurve t s c))
+unfolding recorded
+constant-recorded t s entry c x h = rw h refl
+
+pub list-recorded : (t : Tables) (s : List ℕ) (entry : ℕ) (c : RotationCurve) (l : SampleList) → c ≡ RotationCurve.Samples l → RotationRecord.List (listRecord l entry) ≡ rotationOf (recorded entry (rotationCurve t s c))
+unfolding recorded
+list-recorded t s entry c l h = rw (h, map-length (matrixOf t s) (view 2 little (l .length) (drop (l .place) s)), view-length 2 little (l .length) (drop (l .place) s)) refl

@@ -1,0 +1,190 @@
+// The curves of an animation's object, and their records.
+use animation::Animation;
+use animation::AxisCurves;
+use animation::ObjectRead;
+use animation::RotationCurve;
+use animation::TRSCurves;
+use animation::Tables;
+use animation::read_object;
+use curve::SampleList;
+use curve::ScalarCurve;
+use matrix::Mat3;
+use rotation::basis_mat;
+use rotation::pivot_mat;
+use util::bits::bit16;
+use util::bits::bits16;
+use util::fixed::Fix1_3_12;
+use util::view::word16;
+use util::view::word32;
+ghost use mathlib.Core.Path.{_≡_};
+ghost use Prim.Native.Nat.{_+_, _<_, _≤_};
+ghost use lib.ListN.{length, take, drop};
+ghost use Rattle.curve.specs.Curve.{recorded};
+ghost use Rattle.animation.specs.Animation.{pivotOf, basisOf};
+ghost use Rattle.animation.specs.AnimationCode.{WholeAnimation, tablesAt, matrixOf, referenceEnd, rotationCurve, InsideRotation};
+ghost use Rattle.trs.specs.Trs.{ObjectStands, scalarRecord, RoomFor, RoomForAxes, axisRecord, rotationOf};
+
+// A list's record; the place counts from the section's start.
+pub struct ListRecord {
+    pub start: u16,
+    pub end: u16,
+    pub place: usize,
+    pub length: usize,
+    pub size: usize,
+}
+
+pub enum ScalarRecord {
+    None,
+    Constant(f64),
+    List(ListRecord),
+}
+
+fn no_axes() -> AxisCurves {
+    AxisCurves {
+        x: ScalarCurve::None,
+        y: ScalarCurve::None,
+        z: ScalarCurve::None,
+    }
+}
+
+// The curves of object o of a whole entry.
+pub fn object_at(s: &[u8], a: Animation, o: usize) -> TRSCurves
+    requires { ⌜ WholeAnimation (now s) a × (o < a .objects) ⌝ }
+    ensures { λ r. ⌜ ObjectStands (now (s .entry)) o r ⌝ }
+{
+    match read_object(s, a.tables, word16(s, 20 + 2 * o) as usize, 0) {
+        ObjectRead::Whole(c, _) => c,
+        ObjectRead::Refused(n) => TRSCurves {
+            trans: no_axes(),
+            rotation: RotationCurve::None,
+            scale: no_axes(),
+        },
+    }
+}
+
+fn list_record(l: SampleList, entry: usize) -> ListRecord
+    requires { ⌜ entry + l .place < 18446744073709551616 ⌝ }
+    ensures { λ r. ⌜ r ≡ record { start = l .start; end = l .end; place = entry + l .place; length = l .length; size = l .size } ⌝ }
+{
+    ListRecord {
+        start: l.start,
+        end: l.end,
+        place: entry + l.place,
+        length: l.length,
+        size: l.size,
+    }
+}
+
+// A scalar curve's record, in an entry that stands at `entry`.
+pub fn record_scalar(c: ScalarCurve, entry: usize) -> ScalarRecord
+    requires { ⌜ RoomFor c entry ⌝ }
+    ensures { λ r. ⌜ r ≡ scalarRecord c entry ⌝ }
+{
+    match c {
+        ScalarCurve::None => ScalarRecord::None,
+        ScalarCurve::Constant(v) => ScalarRecord::Constant(v),
+        ScalarCurve::Samples(l, _) => ScalarRecord::List(list_record(l, entry)),
+    }
+}
+
+pub enum CurveRecord {
+    Curve(ScalarRecord),
+    Refused(u8),
+}
+
+// The record of axis 0, 1 or 2, in an entry that stands at `entry`.
+pub fn record_axis(a: AxisCurves, axis: usize, entry: usize) -> CurveRecord
+    requires { ⌜ RoomForAxes a entry ⌝ }
+    ensures { λ r. ⌜ r ≡ axisRecord a axis entry ⌝ }
+{
+    if axis == 0 {
+        let c = a.x;
+        return CurveRecord::Curve(record_scalar(c, entry));
+    }
+    if axis == 1 {
+        let c = a.y;
+        return CurveRecord::Curve(record_scalar(c, entry));
+    }
+    if axis == 2 {
+        let c = a.z;
+        return CurveRecord::Curve(record_scalar(c, entry));
+    }
+    CurveRecord::Refused(9)
+}
+
+pub enum RotationRecord {
+    None,
+    Constant(Mat3),
+    List(ListRecord),
+}
+
+pub enum RotationAnswer {
+    Curve(RotationRecord),
+    Refused(u8),
+}
+
+// The pivot matrix whose six bytes stand at p.
+fn pivot_at(s: &[u8], p: usize) -> Mat3
+    requires { ⌜ p + 6 ≤ length (now s) ⌝ }
+    ensures { λ r. ⌜ r ≡ pivotOf (take 6 (drop p (now (s .entry)))) ⌝ }
+{
+    let w = word16(s, p);
+    let a = word16(s, p + 2);
+    let b = word16(s, p + 4);
+    pivot_mat(
+        bits16(w, 0, 4),
+        bits16(w, 4, 8),
+        Fix1_3_12::read(a),
+        Fix1_3_12::read(b),
+    )
+}
+
+// The basis matrix whose ten bytes stand at p.
+fn basis_at(s: &[u8], p: usize) -> Mat3
+    requires { ⌜ p + 10 ≤ length (now s) ⌝ }
+    ensures { λ r. ⌜ r ≡ basisOf (take 10 (drop p (now (s .entry)))) ⌝ }
+{
+    basis_mat(
+        word16(s, p),
+        word16(s, p + 2),
+        word16(s, p + 4),
+        word16(s, p + 6),
+        word16(s, p + 8),
+    )
+}
+
+// The matrix that x refers to.
+fn matrix_of(s: &[u8], t: Tables, x: u16) -> Mat3
+    requires { ⌜ (referenceEnd t x ≤ length (now s)) × (t .pivot < 4294967296) × (t .basis < 4294967296) ⌝ }
+    ensures { λ r. ⌜ r ≡ matrixOf t (now (s .entry)) x ⌝ }
+{
+    let i = bits16(x, 0, 15) as usize;
+    if bit16(x, 15) {
+        pivot_at(s, t.pivot + 6 * i)
+    } else {
+        basis_at(s, t.basis + 10 * i)
+    }
+}
+
+// Where the tables of an entry stand.
+pub fn read_tables(s: &[u8]) -> Tables
+    requires { ⌜ 20 ≤ length (now s) ⌝ }
+    ensures { λ r. ⌜ (r ≡ tablesAt (now (s .entry))) × (r .pivot < 4294967296) × (r .basis < 4294967296) ⌝ }
+{
+    Tables {
+        pivot: word32(s, 12) as usize,
+        basis: word32(s, 16) as usize,
+    }
+}
+
+// A rotation curve's record, in an entry that stands at `entry`.
+pub fn record_rotation(s: &[u8], t: Tables, c: RotationCurve, entry: usize) -> RotationRecord
+    requires { ⌜ InsideRotation t (now s) c × (t .pivot < 4294967296) × (t .basis < 4294967296) × (entry + length (now s) < 18446744073709551616) ⌝ }
+    ensures { λ r. ⌜ r ≡ rotationOf (recorded entry (rotationCurve t (now (s .entry)) c)) ⌝ }
+{
+    match c {
+        RotationCurve::None => RotationRecord::None,
+        RotationCurve::Constant(x) => RotationRecord::Constant(matrix_of(s, t, x)),
+        RotationCurve::Samples(l) => RotationRecord::List(list_record(l, entry)),
+    }
+}
