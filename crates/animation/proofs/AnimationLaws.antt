@@ -40,9 +40,6 @@ use Rattle.curve.specs.Curve.{Curve, none, constant, samples, numberOf, numberW
 use Rattle.animation.specs.Animation.{startOf, endOf, widthOf, rateOf, valuesOf, numberSize, numberKind, curveWord, listFields, scalarList, scalar, axes, pivotOf, basisOf, reference, rotationList, rotation, Axes, Object, noAxes, animated, object, Animation, animationStamp, mostObjects, animation}
 use Rattle.animation.specs.AnimationCode.{listOf, ScalarIs, ScalarReads, referenceEnd, matrixOf, RotationIs, RotationReads, AxesAre, AxesReads, ObjectIs, ObjectReads, tablesAt, objectsAt, ObjectsIs, WholeObjects, AnimationIs}
 
-both-max : (m a b : ℕ) → a ≤ b → max (max m a) b ≡ max m b
-both-max m a b h = omega arith
-
 -- a curve word's end is below 4096, and so is the number of its values
 pub end-lt : (w : ℕ) → endOf w < 65536
 end-lt w = let h = mod-lt (w / 2 ^ 16) (pow-pos 12) in omega arith

@@ -340,7 +340,7 @@ fn read_rotation(s: &[u8], t: Tables, constant: bool, p: usize, reach: usize) ->
     }
 }
 
-fn no_axes() -> AxisCurves
+pub fn no_axes() -> AxisCurves
     ensures { λ r. ⌜ r ≡ record { x = ScalarCurve.None; y = ScalarCurve.None; z = ScalarCurve.None } ⌝ }
 {
     AxisCurves {

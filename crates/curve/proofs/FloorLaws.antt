@@ -2,7 +2,7 @@
 use mathlib.Core.Path.{_≡_, refl, sym, ap, _∙_, subst}
 use mathlib.Core.Bool.{Bool, true, false, not, cond}
 use Prim.Native.Nat.{ℕ, zero, suc, _+_, _-_, _*_, _/_, _%_, _^_, _≤_, _<_, zero-le}
-use native.Mathlib.Nat.{div-le-self, div-mul-le-self, zero-mul, zero-mod, mul-pos, le-trans, le-of-eq, lt-of-le-of-lt, lt-of-lt-of-le, lt-irrefl, not-le-of-lt, mod-lt, mod-eq-of-lt, div-lt-iff-lt-mul, mul-assoc, mul-right-comm, mul-le-mul-right, mul-lt-mul-of-pos-right, eq-of-mul-eq-mul-right, lt-of-mul-lt-mul-right, mul-mod-left, div-add-mod', div-eq-of-lt}
+use native.Mathlib.Nat.{div-le-self, div-mul-le-self, zero-mul, zero-mod, mul-pos, le-trans, le-of-eq, lt-of-le-of-lt, lt-of-lt-of-le, lt-irrefl, not-le-of-lt, mod-lt, mod-eq-of-lt, mul-assoc, mul-right-comm, mul-le-mul-right, mul-lt-mul-of-pos-right, eq-of-mul-eq-mul-right, lt-of-mul-lt-mul-right, mul-mod-left, div-add-mod', div-eq-of-lt}
 use native.Mathlib.Omega.{arith}
 use lib.Dec.{T, leb, eqb, nleb→lt, leb→le, lit≤, lit<}
 use lib.Pow.{pow-pos, pow-add, pow-mono, shl-lt}
@@ -120,15 +120,6 @@ joined b =
     ap (λ (z : ℕ). bitOr z 4503599627370496) (and-mask b 52)
     ∙ or-comm (b % 2 ^ 52) (2 ^ 52)
     ∙ or-shifted 1 52 (b % 2 ^ 52) (mod-lt b (pow-pos 52))
-
-no-whole : (a b : ℕ) → a < b → a / b ≡ 0
-no-whole a b h = zero-of (a / b) (div-lt-iff-lt-mul (lt-of-le-of-lt zero-le h) .1 (subst (λ (z : ℕ). a < z) (one b) h))
-  where
-    one : (b : ℕ) → b ≡ 1 * b
-    one b = omega arith
-
-    zero-of : (q : ℕ) → q < 1 → q ≡ 0
-    zero-of q h = omega arith
 
 -- a fraction that is whole is whole however it is written
 whole-same : (a b c d : ℕ) → 0 < b → a * d ≡ c * b → a % b ≡ 0 → c % d ≡ 0

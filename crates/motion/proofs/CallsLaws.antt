@@ -40,9 +40,6 @@ module _ (k : Kind) (s : List ℕ) (i : ℕ) (q : Query k) where
   on-refused n e = run-bind-as (entryOf k i) (λ x. tell (ask q x)) s 0 (refused n) e
 
   module _ (e : EntryAt) (w : OpenAt k s i e) where
-    pub on-held-refused : (n : ℕ) → run (value k) (drop (e .offset) s) 0 ≡ refused n → answer (on k i q) s ≡ refused n
-    on-held-refused n h = on-refused n (w .reads ∙ ap (entryFrom k s e) h)
-
     -- the entry as the specification has it
     abbrev pub stands : Value k → Entry k
     stands v = record { name = take 16 (drop (e .name) s); offset = e .offset; held = v }

@@ -1,9 +1,9 @@
 -- An entry that is opened: what its slice says, and what that makes of the call. Assumes nothing.
-use Prim.Native.Nat.{ℕ, _+_, _-_, _*_, _≤_}
+use Prim.Native.Nat.{ℕ, _+_, _*_, _≤_}
 use mathlib.Core.List.{List}
-use mathlib.Core.Path.{_≡_, refl, ap, subst, _∙_}
+use mathlib.Core.Path.{_≡_, refl, ap, _∙_}
 use native.Mathlib.Omega.{arith}
-use lib.ListN.{length, take, drop, length-drop}
+use lib.ListN.{length, drop, length-drop}
 use Rattle.util.specs.Reader.{refused, run, Verdict, answered, denied}
 use Rattle.info_block.specs.declared.InfoBlock.{InfoBlock}
 use Rattle.info_block.specs.Name.{Name}
@@ -12,13 +12,8 @@ use Rattle.nitro.specs.declared.container.EntryAt.{EntryAt}
 use Rattle.nitro.specs.Container.{Kind, value, entryOf}
 use Rattle.nitro.specs.ContainerCode.{entryFrom}
 use Rattle.nitro.specs.EntryCode.{nameSays, OpenAt}
-use Rattle.nitro.proofs.EntryLaws.{onward}
 use Rattle.motion.specs.Answers.{nameAnswerOf}
 use Rattle.motion.proofs.CallsLaws.{told}
-
--- what is found of a slice that is lent from an offset onward, once its variant is known
-pub lent : {R : Type 0} (P : List ℕ → R → Type 0) (s : List ℕ) (off : ℕ) (r x : R) → P (take (length s - off) (drop off s)) r → r ≡ x → P (drop off s) x
-lent P s off r x h q = subst (P (drop off s)) q (subst (λ (l : List ℕ). P l r) (onward off s) h)
 
 -- an entry whose value is refused
 pub value-refused : (k : Kind) (s : List ℕ) (i : ℕ) (e : EntryAt) → OpenAt k s i e → (n : ℕ) → run (value k) (drop (e .offset) s) 0 ≡ refused n → run (entryOf k i) s 0 ≡ refused n

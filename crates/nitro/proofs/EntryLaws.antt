@@ -18,7 +18,6 @@ use Rattle.nitro.specs.declared.container.EntryAt.{EntryAt}
 use Rattle.nitro.specs.declared.entry.Name.{Name as CodeName}
 use Rattle.nitro.specs.declared.entry.NameAnswer.{NameAnswer}
 use Rattle.nitro.specs.declared.entry.Held.{Held}
-use Rattle.nitro.specs.declared.entry.ValueRead.{ValueRead}
 use Rattle.nitro.specs.declared.entry.EntryCheck.{EntryCheck}
 use Rattle.animation.specs.declared.Animation.{Animation as KnownAnimation}
 use Rattle.animation.specs.declared.AnimationRead.{AnimationRead}
@@ -34,7 +33,7 @@ use Rattle.pattern.specs.declared.Pattern.{Pattern as Known}
 use Rattle.pattern.specs.Pattern.{pattern, track, WholePattern}
 use Rattle.nitro.specs.Container.{Kind, jnt, srt, pat, allKinds, kindOf, stamped, value, entry, EntryRecord, recordOf, entryOf}
 use Rattle.nitro.specs.ContainerCode.{kindMeans, entryFrom, EntryStands}
-use Rattle.nitro.specs.EntryCode.{nameOf, nameAmong, checkOf, kindNumber, sameKind, HeldIs, ValueIs, OpenAt, AnimationStands}
+use Rattle.nitro.specs.EntryCode.{nameOf, nameAmong, checkOf, kindNumber, sameKind, HeldIs, OpenAt, AnimationStands}
 use Rattle.nitro.proofs.ContainerLaws.{taken, own, stamp-of, stamp-taken, stamp-refused, stamp-none}
 
 -- an entry that no byte is left of
@@ -51,8 +50,9 @@ past-end k s off h = nothing-left k (drop off s) (simp length-drop (omega arith)
 pub onward : (off : ℕ) (s : List ℕ) → take (length s - off) (drop off s) ≡ drop off s
 onward off s = take-all (length s - off) (drop off s) (le-of-eq (length-drop off s))
 
-pub value-read : (k : Kind) (s : List ℕ) (off : ℕ) (r x : ValueRead) → ValueIs k (take (length s - off) (drop off s)) r → r ≡ x → ValueIs k (drop off s) x
-value-read k s off r x h e = subst (ValueIs k (drop off s)) e (subst (λ (l : List ℕ). ValueIs k l r) (onward off s) h)
+-- what is found of a slice that is lent from an offset onward, once its variant is known
+pub lent : {R : Type 0} (P : List ℕ → R → Type 0) (s : List ℕ) (off : ℕ) (r x : R) → P (take (length s - off) (drop off s)) r → r ≡ x → P (drop off s) x
+lent P s off r x h q = subst (P (drop off s)) q (subst (λ (l : List ℕ). P l r) (onward off s) h)
 
 -- ---- the names of an entry's info block
 

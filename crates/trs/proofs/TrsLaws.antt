@@ -1,10 +1,11 @@
 -- Objects of a whole entry, and records of curves. Assumes nothing.
-use Prim.Native.Nat.{ℕ, suc, _+_, _*_, _≤_, _<_}
+use Prim.Native.Nat.{ℕ, _+_, _*_, _≤_, _<_}
 use mathlib.Core.Bool.{Bool, true, false}
-use mathlib.Core.List.{List, [], _∷_, map}
+use mathlib.Core.List.{List}
 use mathlib.Core.Path.{_≡_, refl, sym, ap, subst, _∙_}
+use native.Mathlib.Nat.{add-zero}
 use native.Mathlib.Omega.{arith}
-use lib.ListN.{length, take, drop, getD}
+use lib.ListN.{length, take, drop, getD, length-map}
 use Rattle.util.specs.Bits.{bits, bit}
 use Rattle.util.specs.Fixed.{fix1-3-12, fixed}
 use Rattle.util.specs.View.{little, wordAt, view}
@@ -69,9 +70,6 @@ room-in s (ScalarCurve.Samples x n) entry h l = let e = h .ends in omega arith
 
 -- ---- rotations
 
-add-zero : (n : ℕ) → n + 0 ≡ n
-add-zero n = omega arith
-
 pub pivot-there : (s : List ℕ) (p : ℕ) → pivotOf (take 6 (drop p s)) ≡ pivotMat (bits (wordAt 2 s p) 0 4) (bits (wordAt 2 s p) 4 8) (fixed fix1-3-12 (wordAt 2 s (p + 2))) (fixed fix1-3-12 (wordAt 2 s (p + 4)))
 unfolding pivotOf
 pivot-there s p = rw (word-part 2 6 p 0 s (omega arith), word-part 2 6 p 2 s (omega arith), word-part 2 6 p 4 s (omega arith), add-zero p) refl
@@ -96,10 +94,6 @@ module _ (t : Tables) (s : List ℕ) (x i : ℕ) (e : i ≡ bits x 0 15) (b : Bo
   unfolding matrixOf
   basis-matrix h = rw (e, sym k ∙ h) refl
 
-map-length : {A B : Type 0} (f : A → B) (xs : List A) → length (map f xs) ≡ length xs
-map-length f [] = refl
-map-length f (x ∷ xs) = ap suc (map-length f xs)
-
 -- the records of a rotation curve are the specification's
 pub none-recorded : (t : Tables) (s : List ℕ) (entry : ℕ) (c : RotationCurve) → c ≡ RotationCurve.None → RotationRecord.None ≡ rotationOf (recorded entry (rotationCurve t s c))
 unfolding recorded
@@ -111,4 +105,4 @@ constant-recorded t s entry c x h = rw h refl
 
 pub list-recorded : (t : Tables) (s : List ℕ) (entry : ℕ) (c : RotationCurve) (l : SampleList) → c ≡ RotationCurve.Samples l → RotationRecord.List (listRecord l entry) ≡ rotationOf (recorded entry (rotationCurve t s c))
 unfolding recorded
-list-recorded t s entry c l h = rw (h, map-length (matrixOf t s) (view 2 little (l .length) (drop (l .place) s)), view-length 2 little (l .length) (drop (l .place) s)) refl
+list-recorded t s entry c l h = rw (h, length-map (view 2 little (l .length) (drop (l .place) s)) (matrixOf t s), view-length 2 little (l .length) (drop (l .place) s)) refl

@@ -5,6 +5,7 @@ use animation::ObjectRead;
 use animation::RotationCurve;
 use animation::TRSCurves;
 use animation::Tables;
+use animation::no_axes;
 use animation::read_object;
 use curve::SampleList;
 use curve::ScalarCurve;
@@ -37,14 +38,6 @@ pub enum ScalarRecord {
     None,
     Constant(f64),
     List(ListRecord),
-}
-
-fn no_axes() -> AxisCurves {
-    AxisCurves {
-        x: ScalarCurve::None,
-        y: ScalarCurve::None,
-        z: ScalarCurve::None,
-    }
 }
 
 // The curves of object o of a whole entry.

@@ -4,7 +4,8 @@ use native.Mathlib.Omega.{arith}
 use Rattle.material_animation.specs.MaterialAnimation.{MaterialIs}
 use Rattle.nitro.specs.Container.{srt}
 use Rattle.nitro.specs.EntryCode.{OpenIs}
-use Rattle.motion.proofs.OpenedLaws.{lent, value-refused}
+use Rattle.motion.proofs.OpenedLaws.{value-refused}
+use Rattle.nitro.proofs.EntryLaws.{lent}
 use borrow.Author.Needs.{needs}
 use Rattle.motion.proofs.opened.open_material.Statement.{statement}
 use Rattle.motion.proofs.opened.open_material.Tie as tie

@@ -2,7 +2,7 @@
 use mathlib.Core.Path.{subst}
 use native.Mathlib.Omega.{arith}
 use Rattle.motion.specs.SrtCode.{TrackStands, TrackFinds}
-use Rattle.motion.proofs.OpenedLaws.{lent}
+use Rattle.nitro.proofs.EntryLaws.{lent}
 use Rattle.motion.proofs.SrtLaws.{ReadIs, datum-room, channel-past, channel-whole, channel-stands}
 use borrow.Author.Needs.{needs}
 use Rattle.motion.proofs.srt.find_channel.Statement.{statement}

@@ -4,7 +4,8 @@ use mathlib.Core.Path.{_≡_}
 use native.Mathlib.Omega.{arith}
 use lib.ListN.{length, drop, length-drop}
 use Rattle.nitro.specs.ContainerCode.{kindMeans}
-use Rattle.nitro.proofs.EntryLaws.{value-read, past-end, held-refused, held-whole}
+use Rattle.nitro.specs.EntryCode.{ValueIs}
+use Rattle.nitro.proofs.EntryLaws.{lent, past-end, held-refused, held-whole}
 use borrow.Author.Needs.{needs}
 use Rattle.nitro.proofs.entry.check_at.Statement.{statement}
 use Rattle.nitro.proofs.entry.check_at.Tie as tie
@@ -38,7 +39,7 @@ add-greater c =
     let b = c .before .before .before in
     let z = b .before .before .before .before .before .before in
     let a = z .args in
-    let v = value-read (kindMeans (a .kind)) (a .s .now) (a .e .offset) _ _ (b .before .before .read-value .ensures) (b .h .given .1) in
+    let v = lent (ValueIs (kindMeans (a .kind))) (a .s .now) (a .e .offset) _ _ (b .before .before .read-value .ensures) (b .h .given .1) in
     let l : length (drop (a .e .offset) (a .s .now)) ≡ length (a .s .now) - a .e .offset = length-drop (a .e .offset) (a .s .now) in
     let i = v .inside in
     omega arith
@@ -51,7 +52,7 @@ returns-2 c =
     let b = c .before in
     let z = b .before .before .before .before .before .before in
     let a = z .args in
-    let v = value-read (kindMeans (a .kind)) (a .s .now) (a .e .offset) _ _ (b .before .before .read-value .ensures) (b .n .given .1) in
+    let v = lent (ValueIs (kindMeans (a .kind))) (a .s .now) (a .e .offset) _ _ (b .before .before .read-value .ensures) (b .n .given .1) in
     held-refused (kindMeans (a .kind)) (a .s .now) (a .i) (a .e) (z .pre) _ v
 
 returns-3 : tie.Need-returns-3
@@ -59,7 +60,7 @@ returns-3 c =
     let b = c .before .before .before .before in
     let z = b .before .before .before .before .before .before in
     let a = z .args in
-    let v = value-read (kindMeans (a .kind)) (a .s .now) (a .e .offset) _ _ (b .before .before .read-value .ensures) (b .h .given .1) in
+    let v = lent (ValueIs (kindMeans (a .kind))) (a .s .now) (a .e .offset) _ _ (b .before .before .read-value .ensures) (b .h .given .1) in
     held-whole (kindMeans (a .kind)) (a .s .now) (a .i) (a .e) (z .pre) _ v _ _ (c .before .before .name-at .ensures) (c .greater .ensures)
 
 pub check-at-spec : {M : Type 1} → statement M
