@@ -143,13 +143,13 @@ number-fits width numbers h = go (eqb width 0)
     go false = omega arith
 
 -- a curve word's list stands in the section
-pub list-inside : (numbers w off : ℕ) (s : List ℕ) → 1 ≤ numbers → numbers ≤ 2 → startOf w < endOf w → off + numberSize (widthOf w) * numbers * valuesOf w ≤ length s
+pub list-inside : (numbers w off : ℕ) (s : List ℕ) → 1 ≤ numbers → numbers ≤ 2 → off + numberSize (widthOf w) * numbers * valuesOf w ≤ length s
     → InsideList s (listOf w off (numberSize (widthOf w) * numbers)) (numberKind (widthOf w))
-list-inside numbers w off s h k f l =
+list-inside numbers w off s h k l =
     record {
       ends = l;
       few = let v = values-lt w in omega arith;
-      frames = λ _. f;
+      frames = div-le-self (endOf w - startOf w) (2 ^ rateOf w);
       wide = number-fits (widthOf w) numbers h;
       small = size-le (widthOf w) numbers k;
     }
@@ -165,14 +165,14 @@ module _ (numbers w off next m : ℕ) (s : List ℕ) (z : ℕ) (l : SampleList) 
   pub code-short : length s < off + z * numbers * l .length → run (scalarList numbers w off next) s m ≡ refused 2
   code-short h = values-short numbers w off next m s (subst (λ (x : ℕ). length s < x) code-end h)
 
-  pub code-whole : (n : Number) (far : ℕ) → n ≡ numberKind (widthOf w) → far ≡ max m (off + z * numbers * l .length) → 1 ≤ numbers → numbers ≤ 2 → startOf w < endOf w
+  pub code-whole : (n : Number) (far : ℕ) → n ≡ numberKind (widthOf w) → far ≡ max m (off + z * numbers * l .length) → 1 ≤ numbers → numbers ≤ 2
       → off + z * numbers * l .length ≤ length s → ScalarIs (scalarList numbers w off next) s m next (Samples l n) next far
-  code-whole n far k g h₁ h₂ f h =
+  code-whole n far k g h₁ h₂ h =
       let room : off + size numbers w off next m s * valuesOf w ≤ length s = subst (λ (x : ℕ). x ≤ length s) code-end h in
       subst (λ (x : SampleList). ScalarIs (scalarList numbers w off next) s m next (Samples x n) next far) (sym code-list)
       (subst (λ (x : Number). ScalarIs (scalarList numbers w off next) s m next (Samples (listOf w off (size numbers w off next m s)) x) next far) (sym k)
       (subst (λ (x : ℕ). ScalarIs (scalarList numbers w off next) s m next (Samples (listOf w off (size numbers w off next m s)) (numberKind (widthOf w))) next x) (sym (g ∙ ap (max m) code-end))
-      (record { reads = values-whole numbers w off next m s room; near = omega arith; inside = list-inside numbers w off s h₁ h₂ f room })))
+      (record { reads = values-whole numbers w off next m s room; near = omega arith; inside = list-inside numbers w off s h₁ h₂ room })))
 
 -- readers that run alike are read alike
 pub reads-alike : (r r' : Reader (Curve Float × ℕ)) (s : List ℕ) (m m' most : ℕ) → run r s m ≡ run r' s m' → (x : ScalarRead) → ScalarReads r' s m' most x → ScalarReads r s m most x

@@ -1,5 +1,5 @@
 -- Curves, and what they give at a frame. Assumes nothing.
-use Prim.Native.Nat.{ℕ, _+_, _-_, _*_, _/_, _%_, _≤_, _<_}
+use Prim.Native.Nat.{ℕ, _+_, _-_, _*_, _/_, _%_, _≤_}
 use mathlib.Core.Bool.{cond}
 use mathlib.Core.List.{List, [], _∷_}
 use lib.Dec.{leb, eqb}
@@ -116,7 +116,7 @@ numberWidth Fix1_10_5 = 2
 pub record InsideList (s : List ℕ) (l : SampleList) (number : Number) : Type 0 where
   pub ends : l .place + l .size * l .length ≤ length s
   pub few : l .length ≤ 65535
-  pub frames : 1 ≤ l .length → l .start < l .end
+  pub frames : l .length ≤ l .end - l .start
   pub wide : numberWidth number ≤ l .size
   pub small : l .size ≤ 8
 

@@ -4,7 +4,7 @@ use mathlib.Core.List.{List, [], _∷_}
 use lib.Ieee.{Float}
 use Rattle.util.proofs.All.{Each}
 use Rattle.animation.specs.Animation.{Axes}
-use Rattle.nitro.specs.Finite.{Finite}
+use Rattle.matrix.specs.Finite.{Finite}
 use Rattle.nitro.proofs.FiniteLaws.{Small, below-finite, SizedAxes, axes-sized}
 use Rattle.gltf.specs.Curve.{framesOf, axesDomain, sampleAxes, resampleVec3}
 

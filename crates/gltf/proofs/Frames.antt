@@ -4,10 +4,10 @@ use mathlib.Core.Bool.{Bool, true, false, cond}
 use mathlib.Core.List.{List, [], _∷_}
 use mathlib.Core.Logic.{⊎-elim}
 use mathlib.Core.Path.{_≡_, refl, sym, ap, subst, _∙_}
-use native.Mathlib.Nat.{div-eq-of-lt, add-div-right}
+use native.Mathlib.Nat.{le-refl, div-eq-of-lt, add-div-right}
 use native.Mathlib.Omega.{arith}
-use borrow.Author.Tests.{ltb-true, ltb-false}
-use lib.Dec.{ltb}
+use borrow.Author.Tests.{ltb-true, ltb-false, lt-ltb, le-ltb}
+use lib.Dec.{ltb, lit<}
 use lib.ListN.{length}
 use Rattle.util.proofs.Cut.{le-or-lt}
 use Rattle.gltf.specs.declared.CurveDomain.{CurveDomain}
@@ -49,17 +49,62 @@ unfolding framesFrom
 frames-length zero f end rate h l = sym (none-left f end rate h (omega arith))
 frames-length (suc steps) f end rate h l = frames-step (ltb f end) f end rate (framesFrom steps (f + rate) end rate) h refl (frames-length steps (f + rate) end rate h (omega arith))
 
+-- no more frames than steps
+few-frames : (steps f end rate : ℕ) → length (framesFrom steps f end rate) ≤ steps
+unfolding framesFrom
+few-frames zero f end rate = le-refl 0
+few-frames (suc steps) f end rate = at-most (ltb f end) f (framesFrom steps (f + rate) end rate) (few-frames steps (f + rate) end rate)
+  where
+    at-most : (b : Bool) (f : ℕ) (later : List ℕ) → length later ≤ steps → length (cond b (f ∷ later) []) ≤ suc steps
+    at-most true f later h = omega arith
+    at-most false f later h = omega arith
+
+-- ---- one frame after the other
+
+-- the number of steps is no bound where it is at least the distance to the end
+enough : (m n f end rate : ℕ) → 1 ≤ rate → end - f ≤ m → end - f ≤ n → framesFrom m f end rate ≡ framesFrom n f end rate
+unfolding framesFrom
+enough zero zero f end rate h p q = refl
+enough zero (suc n) f end rate h p q = rw (le-ltb f end (omega arith)) refl
+enough (suc m) zero f end rate h p q = rw (le-ltb f end (omega arith)) refl
+enough (suc m) (suc n) f end rate h p q = ap (λ (later : List ℕ). cond (ltb f end) (f ∷ later) []) (enough m n (f + rate) end rate h (omega arith) (omega arith))
+
+-- the frames from f on
+abbrev pub onward : ℕ → ℕ → ℕ → List ℕ
+onward f end rate = framesFrom (end - f) f end rate
+
+module _ (f end rate : ℕ) where
+  pub next-frame : 1 ≤ rate → f < end → onward f end rate ≡ f ∷ onward (f + rate) end rate
+  unfolding framesFrom
+  next-frame h l =
+      let q : end - f ≡ suc (end - f - 1) = omega arith in
+      ap (λ (m : ℕ). framesFrom m f end rate) q ∙ rw (lt-ltb f end l) (ap (λ (fs : List ℕ). f ∷ fs) (enough (end - f - 1) (end - (f + rate)) (f + rate) end rate h (omega arith) (omega arith)))
+
+  pub no-frame : end ≤ f → onward f end rate ≡ []
+  unfolding framesFrom
+  no-frame l = let q : end - f ≡ 0 = omega arith in ap (λ (m : ℕ). framesFrom m f end rate) q
+
 -- ---- of a domain
 
-pub no-frames : (d : CurveDomain) → d ≡ None → 0 ≡ length (framesOf d)
-unfolding framesOf
-no-frames d e = rw e refl
+-- how many, and that they are few
+abbrev pub Counts : CurveDomain → ℕ → Type 0
+Counts d n = (n ≡ length (framesOf d)) × (n < 65536)
 
-pub frames-count : (d : CurveDomain) (start end rate : ℕ) → d ≡ Sampled start end rate → Stepped d → count start end rate ≡ length (framesOf d)
+pub no-frames : (d : CurveDomain) → d ≡ None → Counts d 0
 unfolding framesOf
-frames-count d start end rate e h =
+no-frames d e = (rw e refl, lit< tt)
+
+pub frames-count : (d : CurveDomain) (start end rate : ℕ) → d ≡ Sampled start end rate → Stepped d → end < 65536 → Counts d (count start end rate)
+unfolding framesOf
+frames-count d start end rate e h l =
     let k : Stepped (Sampled start end rate) = subst Stepped e h in
-    rw e (sym (frames-length (end - start) start end rate (k .1) (omega arith)))
+    let n = frames-length (end - start) start end rate (k .1) (omega arith) in
+    let m = few-frames (end - start) start end rate in
+    (rw e (sym n), omega arith)
+
+pub frames-as : (d : CurveDomain) (start end rate : ℕ) → d ≡ Sampled start end rate → framesOf d ≡ onward start end rate
+unfolding framesOf
+frames-as d start end rate e = rw e refl
 
 pub stepped : (d : CurveDomain) (start end rate : ℕ) → d ≡ Sampled start end rate → Stepped d → (start < end) × (1 ≤ rate)
 stepped d start end rate e h = subst Stepped e h

@@ -1,2 +1,3 @@
 pub mod Frames
+pub mod ResampleLaws
 pub mod FiniteLaws

@@ -1,12 +1,16 @@
 -- Domains of curves, and three curves resampled onto the union of theirs. Assumes nothing.
-use Prim.Native.Nat.{ℕ, zero, suc, _+_, _-_, _/_, min, max, _≤_, _<_}
-use mathlib.Core.Bool.{Bool, true, false, _||_, cond}
+use Prim.Native.Nat.{ℕ, zero, suc, _+_, _-_, _*_, _/_, min, max, _≤_, _<_}
+use mathlib.Core.Bool.{Bool, true, false, not, _||_, cond}
 use mathlib.Core.List.{List, [], _∷_}
-use lib.Dec.{ltb}
+use lib.Dec.{ltb, leb}
 use lib.ListN.{length}
+use lib.Seq.{sets}
 use lib.Ieee.{Float}
+use Rattle.util.specs.Reader.{Verdict, answered, denied, given}
 use Rattle.gltf.specs.declared.CurveDomain.{CurveDomain}
 use Rattle.gltf.specs.declared.CurveDomain.the-variants.{None, Sampled}
+use Rattle.gltf.specs.declared.Resampling.{Resampling}
+use Rattle.gltf.specs.declared.Resampling.the-variants as resampling
 use Rattle.curve.specs.Curve.{Curve, none, constant, samples}
 use Rattle.animation.specs.Animation.{Axes, axesAt}
 
@@ -60,3 +64,42 @@ sampleAxes default a (f ∷ fs) = let v = axesAt default a f in v .x ∷ v .y �
 
 unfoldable pub resampleVec3 : Float → Axes → List Float
 resampleVec3 default a = sampleAxes default a (framesOf (axesDomain a))
+
+-- ---- into a lent slice
+
+-- start and end of what was resampled: none for three missing curves
+pub data Span : Type 0 where
+  noSpan : Span
+  span : (start end : ℕ) → Span
+
+-- the answer, and the lent slice with what was written
+pub record Resampled : Type 0 where
+  pub over : Span
+  pub frames : ℕ
+  pub slice : List Float
+
+abbrev pub spanOf : CurveDomain → Span
+spanOf None = noSpan
+spanOf (Sampled start end rate) = span start end
+
+-- 10 for an empty list among the three curves, then 11 if place + 3 times the frames exceeds the slice; then three floats per
+-- frame from the place on, all other elements as they were
+unfoldable pub resample : Float → Axes → List Float → ℕ → Verdict Resampled
+resample default a out place =
+    given (not (anyEmpty a)) 10
+    (given (leb (place + 3 * length (framesOf (axesDomain a))) (length out)) 11
+    (answered (record { over = spanOf (axesDomain a); frames = length (framesOf (axesDomain a)); slice = sets out place (resampleVec3 default a) })))
+
+-- what the code answers
+abbrev pub resamplingIs : Span → ℕ → Resampling
+resamplingIs noSpan frames = Resampling.Nothing
+resamplingIs (span start end) frames = Resampling.Frames start end frames
+
+abbrev pub resamplingOf : Verdict Resampled → Resampling
+resamplingOf (answered r) = resamplingIs (r .over) (r .frames)
+resamplingOf (denied n) = Resampling.Refused n
+
+-- and what it leaves in the slice
+abbrev pub sliceOf : List Float → Verdict Resampled → List Float
+sliceOf out (answered r) = r .slice
+sliceOf out (denied n) = out

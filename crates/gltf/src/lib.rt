@@ -1,8 +1,16 @@
-// Domains of curves, and the frames of a domain.
+// Domains of curves, and three curves resampled onto the union of theirs.
+use animation::AxisCurves;
+use curve::ScalarCurve;
+use trs::sample_axes;
 ghost use mathlib.Core.Path.{_≡_};
-ghost use Prim.Native.Nat.{_-_, _/_, _<_, _≤_, min, max};
+ghost use mathlib.Core.Bool.{false};
+ghost use mathlib.Core.List.{List};
+ghost use Prim.Native.Nat.{ℕ, _-_, _*_, _/_, _<_, _≤_, min, max};
 ghost use lib.ListN.{length};
-ghost use Rattle.gltf.specs.Curve.{framesOf, Stepped};
+ghost use lib.Seq.{sets};
+ghost use Rattle.curve.specs.Curve.{Inside, scalarCurve};
+ghost use Rattle.animation.specs.AnimationCode.{axisCurves, InsideAxes};
+ghost use Rattle.gltf.specs.Curve.{framesOf, Stepped, isEmpty, anyEmpty, axesDomain, framesFrom, sampleAxes, resamplingOf, sliceOf};
 ghost use Rattle.gltf.specs.Curve as spec;
 
 pub enum CurveDomain {
@@ -65,7 +73,7 @@ impl CurveDomain {
     // How many frames there are: start, start + rate, .. below end.
     pub fn num_frames(self) -> usize
         requires { ⌜ Stepped self ⌝ }
-        ensures { λ r. ⌜ r ≡ length (framesOf self) ⌝ }
+        ensures { λ r. ⌜ (r ≡ length (framesOf self)) × (r < 65536) ⌝ }
     {
         match self {
             CurveDomain::None => 0,
@@ -93,4 +101,134 @@ fn greatest(a: u16, b: u16) -> u16
     ensures { λ r. ⌜ r ≡ max a b ⌝ }
 {
     if a < b { b } else { a }
+}
+
+// Whether a curve is a list without values.
+fn is_empty(c: ScalarCurve) -> bool
+    ensures { λ r. ⌜ ((s : List ℕ) → r ≡ isEmpty (scalarCurve s c)) ⌝ }
+{
+    match c {
+        ScalarCurve::None => false,
+        ScalarCurve::Constant(_) => false,
+        ScalarCurve::Samples(l, _) => l.length == 0,
+    }
+}
+
+// Whether a list without values is among the three curves.
+pub fn any_empty(a: AxisCurves) -> bool
+    ensures { λ r. ⌜ ((s : List ℕ) → r ≡ anyEmpty (axisCurves s a)) ⌝ }
+{
+    let x = a.x;
+    let y = a.y;
+    let z = a.z;
+    is_empty(x) || is_empty(y) || is_empty(z)
+}
+
+// The domain of a curve that is no empty list.
+fn domain(s: &[u8], c: ScalarCurve) -> CurveDomain
+    requires { ⌜ Inside (now s) c × (isEmpty (scalarCurve (now s) c) ≡ false) ⌝ }
+    ensures { λ r. ⌜ (r ≡ spec.domain (scalarCurve (now (s .entry)) c)) × Stepped r ⌝ }
+{
+    match c {
+        ScalarCurve::None => CurveDomain::None,
+        ScalarCurve::Constant(_) => CurveDomain::constant(),
+        ScalarCurve::Samples(l, _) => CurveDomain::samples(l.start, l.end, l.length as u16),
+    }
+}
+
+// The union of the domains of three curves, none of them an empty list.
+pub fn axes_domain(s: &[u8], a: AxisCurves) -> CurveDomain
+    requires { ⌜ InsideAxes (now s) a × (anyEmpty (axisCurves (now s) a) ≡ false) ⌝ }
+    ensures { λ r. ⌜ (r ≡ axesDomain (axisCurves (now (s .entry)) a)) × Stepped r ⌝ }
+{
+    let x = a.x;
+    let y = a.y;
+    let z = a.z;
+    let d = domain(s, x);
+    let e = domain(s, y);
+    d.union(e).union(domain(s, z))
+}
+
+// The values at the frames start, start + rate, .. below end, three floats each.
+fn resample_frames(
+    s: &[u8],
+    a: AxisCurves,
+    default: f64,
+    start: u16,
+    end: u16,
+    rate: u16,
+    out: &mut [f64],
+)
+    requires { ⌜ InsideAxes (now s) a × (1 ≤ rate) × (3 * length (framesFrom (end - start) start end rate) ≤ length (now out)) ⌝ }
+    ensures { λ _. ⌜ now (out .exit) ≡ sets (now (out .entry)) 0 (sampleAxes default (axisCurves (now (s .entry)) a) (framesFrom (end - start) start end rate)) ⌝ }
+{
+    let end = end as usize;
+    let rate = rate as usize;
+    let mut frame = start as usize;
+    let mut at = 0usize;
+    while frame < end {
+        let v = sample_axes(s, a, default, frame as u16);
+        out[at] = v.x;
+        out[at + 1] = v.y;
+        out[at + 2] = v.z;
+        at += 3;
+        frame += rate;
+    }
+}
+
+// Three curves at the frames of d, three floats for each frame, from the start of `out` on.
+pub fn resample_vec3(s: &[u8], a: AxisCurves, default: f64, d: CurveDomain, out: &mut [f64])
+    requires { ⌜ InsideAxes (now s) a × Stepped d × (3 * length (framesOf d) ≤ length (now out)) ⌝ }
+    ensures { λ _. ⌜ now (out .exit) ≡ sets (now (out .entry)) 0 (sampleAxes default (axisCurves (now (s .entry)) a) (framesOf d)) ⌝ }
+{
+    match d {
+        CurveDomain::None => {}
+        CurveDomain::Sampled {
+            start_frame,
+            end_frame,
+            sampling_rate,
+        } => resample_frames(s, a, default, start_frame, end_frame, sampling_rate, out),
+    }
+}
+
+// What was resampled: from which frame to which, and how many frames were written. Three missing curves have none.
+pub enum Resampling {
+    Frames {
+        start_frame: u16,
+        end_frame: u16,
+        frames: usize,
+    },
+    Nothing,
+    Refused(u8),
+}
+
+// Three curves resampled into a lent slice, from a place onward.
+pub fn resample(s: &[u8], a: AxisCurves, default: f64, out: &mut [f64], place: usize) -> Resampling
+    requires { ⌜ InsideAxes (now s) a ⌝ }
+    ensures { λ r. ⌜ (r ≡ resamplingOf (spec.resample default (axisCurves (now (s .entry)) a) (now (out .entry)) place)) × (now (out .exit) ≡ sliceOf (now (out .entry)) (spec.resample default (axisCurves (now (s .entry)) a) (now (out .entry)) place)) ⌝ }
+{
+    if any_empty(a) {
+        return Resampling::Refused(10);
+    }
+    let d = axes_domain(s, a);
+    let frames = d.num_frames();
+    if out.len() < place {
+        return Resampling::Refused(11);
+    }
+    if out.len() - place < 3 * frames {
+        return Resampling::Refused(11);
+    }
+    resample_vec3(s, a, default, d, &mut out[place..]);
+    match d {
+        CurveDomain::None => Resampling::Nothing,
+        CurveDomain::Sampled {
+            start_frame,
+            end_frame,
+            sampling_rate,
+        } => Resampling::Frames {
+            start_frame,
+            end_frame,
+            frames,
+        },
+    }
 }

@@ -2,20 +2,15 @@
 use Prim.Native.Nat.{ℕ, zero, suc, _+_, _-_, _*_, _/_, _%_, _≤_, _<_}
 use mathlib.Core.List.{List, [], _∷_, _++_}
 use mathlib.Core.Path.{_≡_, refl, sym, ap, _∙_}
-use native.Mathlib.Nat.{add-zero, suc-add, add-suc}
+use native.Mathlib.Nat.{add-zero}
 use native.Mathlib.Numerals.{add-one, sub-one}
 use native.Mathlib.Omega.{arith}
 use borrow.Author.Tests.{lt-ltb, le-ltb}
-use lib.ListN.{length, set, take, drop, getD, length-append, length-drop}
+use lib.ListN.{length, take, drop, getD, length-append, length-drop}
 use lib.Seq.{sets, take-suc, getD-drop}
+use Rattle.util.proofs.WritesLaws.{sets-append}
 use Rattle.motion.specs.Listing.{digit, decimalIn, hexDigit, hex}
 use Rattle.listing.specs.Writes.{Wrote}
-
--- writing x and then y is writing x ++ y
-sets-append : (l : List ℕ) (at : ℕ) (x y : List ℕ) → sets (sets l at x) (at + length x) y ≡ sets l at (x ++ y)
-sets-append l at [] y = ap (λ (k : ℕ). sets l k y) (add-zero at)
-sets-append l at (a ∷ x) y =
-    ap (λ (k : ℕ). sets (sets (set l at a) (suc at) x) k y) (add-suc at (length x) ∙ sym (suc-add at (length x))) ∙ sets-append (set l at a) (suc at) x y
 
 -- two texts, the second where the first ended
 pub both : {l m r : List ℕ} {at mid end p q : ℕ} {x y : List ℕ} → Wrote l m at mid p x → Wrote m r mid end q y → Wrote l r at end (p + q) (x ++ y)

@@ -68,7 +68,7 @@ pub fn put_two_digits(out: &mut [u8], at: usize, n: usize) -> usize
 }
 
 // The hexadecimal digit, in lower case.
-fn hex_digit(n: u8) -> u8
+pub fn hex_digit(n: u8) -> u8
     requires { ⌜ n < 16 ⌝ }
     ensures { λ r. ⌜ r ≡ hexDigit n ⌝ }
 {

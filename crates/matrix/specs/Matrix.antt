@@ -1,7 +1,10 @@
 -- Matrices of floats, column by column. Assumes nothing.
+use Prim.Native.Nat.{ℕ}
 use mathlib.Core.Bool.{false}
+use mathlib.Core.List.{List, _++_}
 use lib.IntN.{pos}
-use lib.Ieee.{Float, fin, binary64, add, sub, mul}
+use lib.Ieee.{Float, fin, binary64, add, sub, mul, toBits}
+use Rattle.util.specs.View.{littleBytes}
 use Rattle.matrix.specs.declared.Col3.{Col3}
 use Rattle.matrix.specs.declared.Mat3.{Mat3}
 use Rattle.matrix.specs.declared.Col4.{Col4}
@@ -65,3 +68,15 @@ minor p q r s = sub binary64 (mul binary64 p q) (mul binary64 r s)
 -- (y1·z2 - z1·y2, z1·x2 - x1·z2, x1·y2 - y1·x2)
 abbrev pub cross : Col3 → Col3 → Col3
 cross a b = col3 (minor (a .y) (b .z) (a .z) (b .y)) (minor (a .z) (b .x) (a .x) (b .z)) (minor (a .x) (b .y) (a .y) (b .x))
+
+-- ---- a matrix as bytes
+
+abbrev pub floatBytes : Float → List ℕ
+floatBytes x = littleBytes 8 (toBits binary64 x)
+
+abbrev pub columnBytes : Col4 → List ℕ
+columnBytes c = floatBytes (c .x) ++ (floatBytes (c .y) ++ (floatBytes (c .z) ++ floatBytes (c .w)))
+
+-- sixteen floats of 8 little-endian bytes, column by column
+unfoldable pub bytesOf : Mat4 → List ℕ
+bytesOf m = columnBytes (m .c0) ++ (columnBytes (m .c1) ++ (columnBytes (m .c2) ++ columnBytes (m .c3)))

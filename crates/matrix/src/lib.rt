@@ -1,5 +1,10 @@
 // Matrices as columns of floats, by value. They stand in for cgmath's.
+use util::view::put64;
 ghost use mathlib.Core.Path.{_≡_};
+ghost use Prim.Native.Nat.{_+_, _≤_};
+ghost use lib.ListN.{length};
+ghost use lib.Seq.{sets};
+ghost use Rattle.matrix.specs.Finite.{FiniteCol, FiniteMat};
 ghost use Rattle.matrix.specs.Matrix as spec;
 
 pub struct Col3 {
@@ -126,4 +131,26 @@ pub fn trs(t: Col3, r: Mat3, s: Col3) -> Mat4
     let rotation = from_rotation(r);
     let scale = from_nonuniform_scale(s.x, s.y, s.z);
     product(product(translation, rotation), scale)
+}
+
+// A column's four floats, eight bytes each, from `at` on.
+fn put_column(out: &mut [u8], at: usize, c: Col4)
+    requires { ⌜ (at + 32 ≤ length (now out)) × FiniteCol c ⌝ }
+    ensures { λ _. ⌜ now (out .exit) ≡ sets (now (out .entry)) at (spec.columnBytes c) ⌝ }
+{
+    put64(out, at, f64::to_bits(c.x));
+    put64(out, at + 8, f64::to_bits(c.y));
+    put64(out, at + 16, f64::to_bits(c.z));
+    put64(out, at + 24, f64::to_bits(c.w));
+}
+
+// A matrix's sixteen floats, column by column, into the first 128 bytes.
+pub fn put_matrix(out: &mut [u8], m: Mat4)
+    requires { ⌜ (128 ≤ length (now out)) × FiniteMat m ⌝ }
+    ensures { λ _. ⌜ now (out .exit) ≡ sets (now (out .entry)) 0 (spec.bytesOf m) ⌝ }
+{
+    put_column(out, 0, m.c0);
+    put_column(out, 32, m.c1);
+    put_column(out, 64, m.c2);
+    put_column(out, 96, m.c3);
 }

@@ -7,14 +7,14 @@ use borrow.Author.Tests.{lt-ltb, le-ltb, ne-eqb}
 use lib.Ieee.{Float}
 use lib.ListN.{length, take, drop, getD, length-drop}
 use Rattle.util.specs.Reader.{refused, Verdict, answered, denied}
-use Rattle.matrix.specs.declared.Mat3.{Mat3}
+use Rattle.matrix.specs.declared.Mat4.{Mat4}
 use Rattle.curve.specs.Curve.{Curve, none, recorded, Recorded}
 use Rattle.animation.specs.declared.Animation.{Animation as Known}
 use Rattle.animation.specs.declared.AxisCurves.{AxisCurves}
 use Rattle.animation.specs.declared.TRSCurves.{TRSCurves}
-use Rattle.animation.specs.Animation.{Axes, Object, noAxes}
+use Rattle.animation.specs.Animation.{Axes, Object, noAxes, matrixAt}
 use Rattle.animation.specs.declared.Tables.{Tables}
-use Rattle.animation.specs.AnimationCode.{axisCurves, objectCurves, tablesAt, InsideAxes, InsideRotation, WholeAnimation}
+use Rattle.animation.specs.AnimationCode.{axisCurves, objectCurves, tablesAt, InsideAxes, InsideObject, WholeAnimation}
 use Rattle.animation.specs.AnimationCode.{rotationCurve as turned}
 use Rattle.trs.specs.declared.ScalarRecord.{ScalarRecord}
 use Rattle.trs.specs.declared.CurveRecord.{CurveRecord}
@@ -26,12 +26,13 @@ use Rattle.nitro.specs.declared.container.EntryAt.{EntryAt}
 use Rattle.nitro.specs.Container.{jnt, Entry}
 use Rattle.nitro.specs.EntryCode.{AnimationStands}
 use Rattle.nitro.proofs.EntryLaws.{onward}
-use Rattle.motion.specs.Calls.{Query, matrix, translationCurve, rotationCurve, scaleCurve, resampleTranslation, resampleScale, matrixBytes, ask, at, on, answer}
-use Rattle.motion.specs.JntCode.{objectOf, ObjectAt}
-use Rattle.motion.specs.Answers.{curveOf, rotationAnswerOf}
+use Rattle.motion.specs.declared.answers.MatrixAnswer.{MatrixAnswer}
+use Rattle.motion.specs.Calls.{Query, Reply, matrix, translationCurve, rotationCurve, scaleCurve, resampleTranslation, resampleScale, matrixBytes, ask, at, atObject, on, answer}
+use Rattle.motion.specs.Opened.{objectOf, ObjectAt}
+use Rattle.motion.specs.Answers.{matrixOf, curveOf, rotationAnswerOf}
 use Rattle.motion.proofs.CallsLaws.{told, stands, on-held}
 
-stillObject : Object
+abbrev stillObject : Object
 stillObject = record { translation = noAxes; rotation = none; scale = noAxes }
 
 -- past the last object every query is refused
@@ -76,75 +77,67 @@ axis-record s a (suc (suc (suc n))) entry reach =
     let m = suc (suc (suc n)) in
     rw (ne-eqb m 0 (λ (q : m ≡ 0). omega arith), ne-eqb m 1 (λ (q : m ≡ 1). omega arith), ne-eqb m 2 (λ (q : m ≡ 2). omega arith), le-ltb m 3 (omega arith)) refl
 
-ask-translation : (x : Entry jnt) (o axis : ℕ) → o < length (x .held .objects) → ask (translationCurve o axis) x ≡ asked (getD (x .held .objects) o stillObject .translation) axis (x .offset)
-unfolding ask stillObject
-ask-translation x o axis h = rw (lt-ltb o (length (x .held .objects)) h) refl
+-- ---- the calls on an object
 
-ask-scale : (x : Entry jnt) (o axis : ℕ) → o < length (x .held .objects) → ask (scaleCurve o axis) x ≡ asked (getD (x .held .objects) o stillObject .scale) axis (x .offset)
-unfolding ask stillObject
-ask-scale x o axis h = rw (lt-ltb o (length (x .held .objects)) h) refl
-
-ask-rotation : (x : Entry jnt) (o : ℕ) → o < length (x .held .objects) → ask (rotationCurve o) x ≡ answered (recorded (x .offset) (getD (x .held .objects) o stillObject .rotation))
-unfolding ask stillObject
-ask-rotation x o h = rw (lt-ltb o (length (x .held .objects)) h) refl
-
--- ---- the three calls
-
-module _ (s : List ℕ) (i o : ℕ) (e : EntryAt) (c : TRSCurves) (w : ObjectAt s i o e c) where
-  abbrev t : List ℕ
-  t = drop (e .offset) s
+module _ (s : List ℕ) (i o : ℕ) (e : EntryAt) (t : Tables) (c : TRSCurves) (w : ObjectAt s i o e t c) where
+  abbrev here : List ℕ
+  here = drop (e .offset) s
 
   abbrev held : List Object
   held = w .stands .whole .held .objects
 
   object-there : o < length held
-  object-there = subst (λ (n : ℕ). o < n) (sym (w .stands .whole .count)) (w .inside)
-
-  same : getD held o stillObject ≡ objectCurves (tablesAt t) t c
-  same = sym (same-object t (w .known) (w .stands .whole) o stillObject (w .inside) c (w .curves))
+  object-there = rw (w .stands .whole .count) (w .inside)
 
   abbrev far : ℕ
   far = reach s i e (w .known) (w .stands)
 
+  pub tables-near : (t .pivot < 4294967296) × (t .basis < 4294967296)
+  tables-near = rw (w .tables) (w .stands .whole .near)
+
+  -- what is read of the part of the section that the entry starts
+  module _ (p : List ℕ) (j : p ≡ here) where
+    tables-there : t ≡ tablesAt p
+    tables-there = rw j (w .tables ∙ w .stands .whole .tables)
+
+    -- the curves stand inside that part
+    pub object-inside : InsideObject t p c
+    object-inside = subst (λ (h : Tables). InsideObject h p c) (sym tables-there) (subst (λ (l : List ℕ). InsideObject (tablesAt l) l c) (sym j) (w .curves .inside))
+
+    same : getD held o stillObject ≡ objectCurves t p c
+    same =
+        sym (same-object here (w .known) (w .stands .whole) o stillObject (w .inside) c (w .curves))
+        ∙ ap (λ (h : Tables). objectCurves h here c) (sym (w .tables ∙ w .stands .whole .tables))
+        ∙ ap (λ (l : List ℕ). objectCurves t l c) (sym j)
+
+    -- what a query that asks for an object is answered
+    pub object-told : (q : Query jnt) (f : Object → Verdict (Reply q)) → (let x = stands jnt s i q e (w .stands .stands) (w .stands .whole .held) in ask q x ≡ atObject x o f)
+        → answer (on jnt i q) s ≡ told far (f (objectCurves t p c))
+    object-told q f a = on-animation s i e (w .known) (w .stands) q ∙ ap (told far) (a ∙ rw (lt-ltb o (length held) object-there, same) refl)
+
+    pub rotation-recorded : (r : RotationRecord) → r ≡ rotationOf (recorded (e .offset) (turned t p (c .rotation))) → RotationAnswer.Curve r ≡ rotationAnswerOf (answer (on jnt i (rotationCurve o)) s)
+    unfolding ask told
+    rotation-recorded r q = rw q (ap rotationAnswerOf (sym (object-told (rotationCurve o) (λ (y : Object). answered (recorded (e .offset) (y .rotation))) refl)))
+
+    pub matrix-sampled : (frame : ℕ) (r : Mat4) → r ≡ matrixAt (objectCurves t p c) frame → MatrixAnswer.Matrix r ≡ matrixOf (answer (on jnt i (matrix o frame)) s)
+    unfolding ask told
+    matrix-sampled frame r q = rw q (ap matrixOf (sym (object-told (matrix o frame) (λ (y : Object). answered (matrixAt y frame)) refl)))
+
   pub translation-recorded : (axis : ℕ) → axisRecord (c .trans) axis (e .offset) ≡ curveOf (answer (on jnt i (translationCurve o axis)) s)
+  unfolding ask
   translation-recorded axis =
-      let x = stands jnt s i (translationCurve o axis) e (w .stands .stands) (w .stands .whole .held) in
-      let v : told far (ask (translationCurve o axis) x) ≡ told far (asked (objectCurves (tablesAt t) t c .translation) axis (e .offset)) =
-      ap (told far) (ask-translation x o axis object-there) ∙ ap (λ (y : Object). told far (asked (y .translation) axis (e .offset))) same in
-      axis-record t (c .trans) axis (e .offset) far ∙ ap curveOf (sym (on-animation s i e (w .known) (w .stands) (translationCurve o axis) ∙ v))
+      axis-record here (c .trans) axis (e .offset) far
+      ∙ ap curveOf (sym (object-told here refl (translationCurve o axis) (λ (y : Object). asked (y .translation) axis (e .offset)) refl))
 
   pub scale-recorded : (axis : ℕ) → axisRecord (c .scale) axis (e .offset) ≡ curveOf (answer (on jnt i (scaleCurve o axis)) s)
+  unfolding ask
   scale-recorded axis =
-      let x = stands jnt s i (scaleCurve o axis) e (w .stands .stands) (w .stands .whole .held) in
-      let v : told far (ask (scaleCurve o axis) x) ≡ told far (asked (objectCurves (tablesAt t) t c .scale) axis (e .offset)) =
-      ap (told far) (ask-scale x o axis object-there) ∙ ap (λ (y : Object). told far (asked (y .scale) axis (e .offset))) same in
-      axis-record t (c .scale) axis (e .offset) far ∙ ap curveOf (sym (on-animation s i e (w .known) (w .stands) (scaleCurve o axis) ∙ v))
+      axis-record here (c .scale) axis (e .offset) far ∙ ap curveOf (sym (object-told here refl (scaleCurve o axis) (λ (y : Object). asked (y .scale) axis (e .offset)) refl))
 
-  rotation-told : (r : Recorded Mat3) → RotationAnswer.Curve (rotationOf r) ≡ rotationAnswerOf (told far (answered r))
-  unfolding told
-  rotation-told r = refl
-
-  -- a record of the part of the section that the entry starts
-  pub rotation-recorded : (p : List ℕ) (h : Tables) (r : RotationRecord) → p ≡ t → h ≡ tablesAt p → r ≡ rotationOf (recorded (e .offset) (turned h p (c .rotation))) → RotationAnswer.Curve r ≡ rotationAnswerOf (answer (on jnt i (rotationCurve o)) s)
-  rotation-recorded p h r j k q =
-      let x = stands jnt s i (rotationCurve o) e (w .stands .stands) (w .stands .whole .held) in
-      let v : told far (ask (rotationCurve o) x) ≡ told far (answered (recorded (e .offset) (turned (tablesAt t) t (c .rotation)))) =
-      ap (told far) (ask-rotation x o object-there) ∙ ap (λ (y : Object). told far (answered (recorded (e .offset) (y .rotation)))) same in
-      let u : r ≡ rotationOf (recorded (e .offset) (turned (tablesAt t) t (c .rotation))) =
-      q ∙ ap (λ (y : Tables). rotationOf (recorded (e .offset) (turned y p (c .rotation)))) k ∙ ap (λ (l : List ℕ). rotationOf (recorded (e .offset) (turned (tablesAt l) l (c .rotation)))) j in
-      ap (λ (y : RotationRecord). RotationAnswer.Curve y) u ∙ rotation-told (recorded (e .offset) (turned (tablesAt t) t (c .rotation))) ∙ ap rotationAnswerOf (sym (on-animation s i e (w .known) (w .stands) (rotationCurve o) ∙ v))
-
-  -- and its curve stands inside that part
-  pub rotation-inside : (p : List ℕ) (h : Tables) → p ≡ t → h ≡ tablesAt p → InsideRotation h p (c .rotation)
-  rotation-inside p h j k = subst (λ (y : Tables). InsideRotation y p (c .rotation)) (sym k) (subst (λ (l : List ℕ). InsideRotation (tablesAt l) l (c .rotation)) (sym j) (w .curves .inside .rotation))
-
-  pub header-inside : (p : List ℕ) → p ≡ t → 20 ≤ length p
-  header-inside p j = subst (λ (l : List ℕ). 20 ≤ length l) (sym j) (let h = w .stands .whole .room in omega arith)
-
-  pub room-left : e .offset + length t ≤ length s
+  pub room-left : e .offset + length here ≤ length s
   room-left = let h = w .stands .stands .inside in let l = length-drop (e .offset) s in omega arith
 
-  pub rotation-room : (p : List ℕ) → p ≡ t → length s < 18446744073709551616 → e .offset + length p < 18446744073709551616
+  pub rotation-room : (p : List ℕ) → p ≡ here → length s < 18446744073709551616 → e .offset + length p < 18446744073709551616
   rotation-room p j h = subst (λ (l : List ℕ). e .offset + length l < 18446744073709551616) (sym j) (let l = room-left in omega arith)
 
 -- what is known of a lent part of the section

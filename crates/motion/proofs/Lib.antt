@@ -4,3 +4,5 @@ pub mod JntLaws
 pub mod OpenedLaws
 pub mod PatLaws
 pub mod SrtLaws
+pub mod HostLaws
+pub mod ResampleLaws

@@ -10,6 +10,8 @@ use Rattle.trs.specs.declared.RotationAnswer.{RotationAnswer}
 use Rattle.trs.specs.Trs.{recordedOf, rotationOf}
 use Rattle.nitro.specs.declared.entry.NameAnswer.{NameAnswer}
 use Rattle.nitro.specs.EntryCode.{nameSays}
+use Rattle.gltf.specs.declared.Resampling.{Resampling}
+use Rattle.gltf.specs.Curve.{Resampled, resamplingOf}
 use Rattle.motion.specs.declared.answers.ListAnswer.{ListAnswer}
 use Rattle.motion.specs.declared.answers.ChoiceAnswer.{ChoiceAnswer}
 use Rattle.motion.specs.declared.answers.MatrixAnswer.{MatrixAnswer}
@@ -48,3 +50,8 @@ curveOf (refused n) = CurveRecord.Refused n
 abbrev pub rotationAnswerOf : Outcome (Recorded Mat3) → RotationAnswer
 rotationAnswerOf (accepted m r) = RotationAnswer.Curve (rotationOf r)
 rotationAnswerOf (refused n) = RotationAnswer.Refused n
+
+-- what was resampled, or the number
+abbrev pub resamplingAnswerOf : Outcome Resampled → Resampling
+resamplingAnswerOf (accepted m r) = resamplingOf (answered r)
+resamplingAnswerOf (refused n) = resamplingOf (denied n)

@@ -1,28 +1,23 @@
 -- Every public call, and what it answers: a reader of the section, by document 01's order of refusals.
 -- Section, entry index and entry are read by `entry`; then come the index of the object, track, channel or axis (9), 10 and 11, which
 -- read nothing. Assumes nothing.
-use Prim.Native.Nat.{ℕ, _+_, _*_}
-use mathlib.Core.Bool.{not}
-use mathlib.Core.List.{List, [], _∷_, _++_}
+use Prim.Native.Nat.{ℕ, _+_}
+use mathlib.Core.List.{List, [], _∷_}
 use lib.Dec.{ltb, leb}
 use lib.ListN.{length, getD}
 use lib.Seq.{sets}
-use lib.Ieee.{Float, binary64, toBits}
-use Rattle.util.specs.View.{littleBytes}
+use lib.Ieee.{Float}
 use Rattle.util.specs.Reader.{Reader, done, bind, Outcome, accepted, refused, run, Verdict, answered, denied, given, tell}
 use Rattle.matrix.specs.declared.Mat3.{Mat3}
-use Rattle.matrix.specs.declared.Col4.{Col4}
 use Rattle.matrix.specs.declared.Mat4.{Mat4}
-use Rattle.matrix.specs.Matrix.{f0, f1}
+use Rattle.matrix.specs.Matrix.{f0, f1, bytesOf}
 use Rattle.info_block.specs.Name.{Name, named}
 use Rattle.curve.specs.Curve.{Curve, none, Recorded, recorded}
 use Rattle.animation.specs.Animation.{Axes, Object, noAxes, matrixAt}
 use Rattle.material_animation.specs.MaterialAnimation.{uvMatrixAt}
 use Rattle.pattern.specs.Pattern.{Key, Track, choice}
 use Rattle.nitro.specs.Container.{Kind, jnt, srt, pat, allKinds, stamped, section, Entry, entry, EntryRecord, recordOf, entryOf}
-use Rattle.gltf.specs.declared.CurveDomain.{CurveDomain}
-use Rattle.gltf.specs.declared.CurveDomain.the-variants.{None, Sampled}
-use Rattle.gltf.specs.Curve.{axesDomain, anyEmpty, framesOf, resampleVec3}
+use Rattle.gltf.specs.Curve.{Resampled, resample}
 
 -- ---- what is asked of an entry
 
@@ -56,17 +51,6 @@ pub record Chosen : Type 0 where
 pub record Listed : Type 0 where
   pub place : ℕ
   pub length : ℕ
-
--- start and end of what was resampled: none for three missing curves
-pub data Span : Type 0 where
-  noSpan : Span
-  span : (start end : ℕ) → Span
-
--- the answer, and the lent slice with what was written
-pub record Resampled : Type 0 where
-  pub over : Span
-  pub frames : ℕ
-  pub slice : List Float
 
 abbrev pub Reply : {k : Kind} → Query k → Type 0
 Reply (matrix o f) = Mat4
@@ -104,30 +88,6 @@ module _ {B : Type 0} where
 
   abbrev pub atTrack : Entry pat → ℕ → (Track → Verdict B) → Verdict B
   atTrack e i f = at (e .held .tracks) (record { place = 0; keys = [] }) i f
-
--- ---- what a lent slice gets
-
-abbrev pub floatBytes : Float → List ℕ
-floatBytes x = littleBytes 8 (toBits binary64 x)
-
-abbrev pub columnBytes : Col4 → List ℕ
-columnBytes c = floatBytes (c .x) ++ (floatBytes (c .y) ++ (floatBytes (c .z) ++ floatBytes (c .w)))
-
--- sixteen floats of 8 little-endian bytes, column by column
-unfoldable pub bytesOf : Mat4 → List ℕ
-bytesOf m = columnBytes (m .c0) ++ (columnBytes (m .c1) ++ (columnBytes (m .c2) ++ columnBytes (m .c3)))
-
-abbrev pub spanOf : CurveDomain → Span
-spanOf None = noSpan
-spanOf (Sampled start end rate) = span start end
-
--- 10 for an empty list among the three curves, then 11 if place + 3 times the frames exceeds the slice; then three floats per
--- frame from the place on, all other elements as they were
-unfoldable pub resample : Float → Axes → List Float → ℕ → Verdict Resampled
-resample default a out place =
-    given (not (anyEmpty a)) 10
-    (given (leb (place + 3 * length (framesOf (axesDomain a))) (length out)) 11
-    (answered (record { over = spanOf (axesDomain a); frames = length (framesOf (axesDomain a)); slice = sets out place (resampleVec3 default a) })))
 
 -- 10 for a track with no keys
 unfoldable pub chosenOf : List Key → ℕ → Verdict Chosen

@@ -8,10 +8,11 @@ use lib.ListN.{take, replicate}
 use lib.Ieee.{Float, fin, neg}
 use Rattle.util.specs.View.{littleBytes}
 use Rattle.util.specs.Reader.{accepted, refused}
-use Rattle.matrix.specs.Matrix.{f0, f1}
+use Rattle.matrix.specs.Matrix.{f0, f1, col4}
 use Rattle.curve.specs.Curve.{list}
 use Rattle.nitro.specs.Container.{jnt, srt, pat, stampOf, EntryRecord}
-use Rattle.motion.specs.Calls.{check, on, translationCurve, resampleTranslation, resampleScale, chosen, channelCurve, noSpan, span, answer}
+use Rattle.gltf.specs.Curve.{noSpan, span}
+use Rattle.motion.specs.Calls.{check, on, matrix, matrixBytes, translationCurve, resampleTranslation, resampleScale, chosen, channelCurve, answer}
 use Rattle.motion.specs.Evaluate.{evaluate}
 use Rattle.motion.specs.Pinned.{walk}
 
@@ -134,3 +135,13 @@ pub nothing-to-sample :
     × (answer (on jnt 1 (resampleTranslation 0 [] 1)) still ≡ refused 9)
 unfolding evaluate
 nothing-to-sample = (refl, refl, refl)
+
+-- ---- 7. The matrix of the 86 bytes: the identity, with the translation in its fourth column
+
+pub its-matrix :
+    (answer (on jnt 0 (matrix 0 5)) walk
+    ≡ accepted 86 (record { c0 = col4 f1 f0 f0 f0; c1 = col4 f0 f1 f0 f0; c2 = col4 f0 f0 f1 f0; c3 = col4 f1 (neg f1) (fin false 1 (negsuc 0)) f1 }))
+    × (answer (on jnt 0 (matrix 1 5)) walk ≡ refused 9)
+    × (answer (on jnt 0 (matrixBytes 0 5 (zeros 127))) walk ≡ refused 11)
+unfolding evaluate
+its-matrix = (refl, refl, refl)

@@ -1,6 +1,5 @@
 pub mod Calls
 pub mod Finding
-pub mod JntCode
 pub mod Demand3
 pub mod Evaluate
 pub mod Pinned

@@ -1,37 +1,27 @@
 // Calls on a JNT0 entry.
-use animation::TRSCurves;
-use nitro::container::EntryAt;
-use nitro::entry::AnimationOpen;
-use nitro::entry::open_animation;
+use crate::answers::MatrixAnswer;
+use crate::opened::ObjectOpen;
+use crate::opened::open_object;
 use trs::CurveRecord;
 use trs::RotationAnswer;
-use trs::object_at;
-use trs::read_tables;
 use trs::record_axis;
 use trs::record_rotation;
+use trs::sample_at;
 ghost use mathlib.Core.Path.{_≡_};
 ghost use Rattle.nitro.specs.Container.{jnt};
 ghost use Rattle.motion.specs.Calls.{answer, on, translationCurve, rotationCurve, scaleCurve};
-ghost use Rattle.motion.specs.JntCode.{ObjectOpenIs};
-ghost use Rattle.motion.specs.Answers.{curveOf, rotationAnswerOf};
+ghost use Rattle.motion.specs.Calls as calls;
+ghost use Rattle.motion.specs.Answers.{matrixOf, curveOf, rotationAnswerOf};
 
-// An object of an entry that is whole: where the entry stands, and the object's curves.
-pub enum ObjectOpen {
-    At(EntryAt, TRSCurves),
-    Refused(u8),
-}
-
-fn open_object(s: &[u8], entry: usize, object: usize) -> ObjectOpen
-    ensures { λ r. ⌜ ObjectOpenIs (now (s .entry)) entry object r ⌝ }
+// The matrix of an object at a frame.
+pub fn matrix(s: &[u8], entry: usize, object: usize, frame: u16) -> MatrixAnswer
+    ensures { λ r. ⌜ r ≡ matrixOf (answer (on jnt entry (calls.matrix object frame)) (now (s .entry))) ⌝ }
 {
-    match open_animation(s, entry) {
-        AnimationOpen::Refused(n) => ObjectOpen::Refused(n),
-        AnimationOpen::At(e, a) => {
-            if a.objects <= object {
-                return ObjectOpen::Refused(9);
-            }
+    match open_object(s, entry, object) {
+        ObjectOpen::Refused(n) => MatrixAnswer::Refused(n),
+        ObjectOpen::At(e, tables, c) => {
             let off = e.offset;
-            ObjectOpen::At(e, object_at(&s[off..], a, object))
+            MatrixAnswer::Matrix(sample_at(&s[off..], tables, c, frame))
         }
     }
 }
@@ -42,7 +32,7 @@ pub fn translation_curve(s: &[u8], entry: usize, object: usize, axis: usize) -> 
 {
     match open_object(s, entry, object) {
         ObjectOpen::Refused(n) => CurveRecord::Refused(n),
-        ObjectOpen::At(e, c) => {
+        ObjectOpen::At(e, _, c) => {
             let curves = c.trans;
             record_axis(curves, axis, e.offset)
         }
@@ -55,12 +45,10 @@ pub fn rotation_curve(s: &[u8], entry: usize, object: usize) -> RotationAnswer
 {
     match open_object(s, entry, object) {
         ObjectOpen::Refused(n) => RotationAnswer::Refused(n),
-        ObjectOpen::At(e, c) => {
+        ObjectOpen::At(e, tables, c) => {
             let off = e.offset;
             let curve = c.rotation;
-            let part = &s[off..];
-            let tables = read_tables(part);
-            RotationAnswer::Curve(record_rotation(part, tables, curve, off))
+            RotationAnswer::Curve(record_rotation(&s[off..], tables, curve, off))
         }
     }
 }
@@ -71,7 +59,7 @@ pub fn scale_curve(s: &[u8], entry: usize, object: usize, axis: usize) -> CurveR
 {
     match open_object(s, entry, object) {
         ObjectOpen::Refused(n) => CurveRecord::Refused(n),
-        ObjectOpen::At(e, c) => {
+        ObjectOpen::At(e, _, c) => {
             let curves = c.scale;
             record_axis(curves, axis, e.offset)
         }

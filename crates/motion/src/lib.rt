@@ -1,8 +1,10 @@
 // The public calls: each answers every section, every index and every name, and none asks anything of its caller.
 pub mod answers;
+pub mod host;
 pub mod jnt;
 mod opened;
 pub mod pat;
+pub mod resample;
 pub mod srt;
 
 use info_block::BlockRead;

@@ -1,15 +1,20 @@
 // The entry that a call asks about: where it stands, and what is known of it.
+use animation::TRSCurves;
+use animation::Tables;
 use material_animation::MatAnimRead;
 use material_animation::MaterialAnimation;
 use material_animation::read_mat_anim;
 use nitro::container::EntryAt;
 use nitro::container::EntryFound;
 use nitro::container::Kind;
+use nitro::entry::AnimationOpen;
 use nitro::entry::open;
+use nitro::entry::open_animation;
 use pattern::Pattern;
 use pattern::PatternRead;
 use pattern::read_pattern;
-ghost use Rattle.motion.specs.Opened.{MaterialOpens, PatternOpens};
+use trs::object_at;
+ghost use Rattle.motion.specs.Opened.{ObjectOpens, MaterialOpens, PatternOpens};
 
 pub enum MaterialOpen {
     At(EntryAt, MaterialAnimation),
@@ -18,6 +23,12 @@ pub enum MaterialOpen {
 
 pub enum PatternOpen {
     At(EntryAt, Pattern),
+    Refused(u8),
+}
+
+// An object of an entry that is whole: where the entry and its tables stand, and the object's curves.
+pub enum ObjectOpen {
+    At(EntryAt, Tables, TRSCurves),
     Refused(u8),
 }
 
@@ -49,6 +60,23 @@ pub fn open_pattern(s: &[u8], i: usize) -> PatternOpen
                 PatternRead::Refused(n) => PatternOpen::Refused(n),
                 PatternRead::Whole(a) => PatternOpen::At(e, a),
             }
+        }
+    }
+}
+
+// Object `object` of entry `entry` of a JNT0 section.
+pub fn open_object(s: &[u8], entry: usize, object: usize) -> ObjectOpen
+    ensures { λ r. ⌜ ObjectOpens (now (s .entry)) entry object r ⌝ }
+{
+    match open_animation(s, entry) {
+        AnimationOpen::Refused(n) => ObjectOpen::Refused(n),
+        AnimationOpen::At(e, a) => {
+            if a.objects <= object {
+                return ObjectOpen::Refused(9);
+            }
+            let off = e.offset;
+            let tables = a.tables;
+            ObjectOpen::At(e, tables, object_at(&s[off..], a, object))
         }
     }
 }

@@ -26,7 +26,7 @@ use Rattle.matrix.specs.declared.Mat4.{Mat4}
 use Rattle.curve.specs.declared.Number.{Number}
 use Rattle.curve.specs.declared.Number.the-variants.{Fix1_19_12, Fix1_3_12, Fix1_10_5}
 use Rattle.animation.specs.declared.Tables.{Tables}
-use Rattle.nitro.specs.Finite.{Finite, FiniteCol, FiniteMat}
+use Rattle.matrix.specs.Finite.{Finite, FiniteCol, FiniteMat}
 use Rattle.info_block.specs.InfoBlock.{infoBlock}
 use Rattle.matrix.specs.Matrix.{f0, f1, col3, col4, identity3, translation4, extend, rotation4, scale4, trs, dot, column, product, minor}
 use Rattle.rotation.specs.Rotation.{Place, put, placed, placedCol, turned, onlyFirst, pivotMat, basisMat}
@@ -37,10 +37,6 @@ use Rattle.pattern.specs.Pattern.{pattern}
 use Rattle.nitro.specs.Container.{Kind, jnt, srt, pat, Value, value, entryIn, entry}
 use Rattle.animation.proofs.AnimationLaws.{end-lt, values-lt}
 use Rattle.curve.proofs.IndexLaws.{index-upto, floor-le}
-
-pub finite-no-nan : (x : Float) → Finite x → T (not (isNan x))
-unfolding isNan
-finite-no-nan (fin s m e) h = tt
 
 -- x is a number, at most 2 ^ k in size
 pub record Below (k : ℕ) (x : Float) : Type 0 where

@@ -2,4 +2,3 @@ pub mod Container
 pub mod ContainerCode
 pub mod EntryCode
 pub mod NameCode
-pub mod Finite

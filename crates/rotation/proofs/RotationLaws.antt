@@ -13,6 +13,7 @@ use lib.Ieee.Fits.{and-l, and-r}
 use lib.ListN.{length, getD, List·getD-map}
 use lib.Pow.{pow-pos}
 use Rattle.util.specs.Bits.{bits}
+use Rattle.util.proofs.ViewLaws.{map-at}
 use Rattle.rotation.specs.declared.Five.{Five}
 use Rattle.matrix.specs.Matrix.{f0}
 use Rattle.rotation.specs.Rotation.{Place, Z, O, A, B, C, D, rows, letter, placed, put, joined}
@@ -32,15 +33,10 @@ nine [] t s h = absurd (not-suc-le-zero h)
 nine (r ∷ rs) t zero h = eqb→eq (length r) 9 (and-l (eqb (length r) 9) (nines rs) t)
 nine (r ∷ rs) t (suc s) h = nine rs (and-r (eqb (length r) 9) (nines rs) t) s (le-of-suc-le-suc h)
 
-in-row : (r : List Place) (k : ℕ) → k < length r → getD (map letter r) k 0 ≡ letter (getD r k Z)
-in-row [] k h = absurd (not-suc-le-zero h)
-in-row (p ∷ r) zero h = refl
-in-row (p ∷ r) (suc k) h = in-row r k (le-of-suc-le-suc h)
-
 pub rule : (s k : ℕ) → s < 9 → k < 9 → getD (getD table s []) k 0 ≡ letter (placed s k)
 unfolding placed nines
 rule s k h l =
-    ap (λ (r : List ℕ). getD r k 0) (List·getD-map (map letter) rows s []) ∙ in-row (getD rows s []) k (subst (λ (n : ℕ). k < n) (sym (nine rows tt s h)) l)
+    ap (λ (r : List ℕ). getD r k 0) (List·getD-map (map letter) rows s []) ∙ map-at letter (getD rows s []) k Z 0 (subst (λ (n : ℕ). k < n) (sym (nine rows tt s h)) l)
 
 -- the value by its letter
 abbrev byLetter : ℕ → Float → Float → Float → Float → Float → Float

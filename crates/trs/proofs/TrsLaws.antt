@@ -1,7 +1,7 @@
--- Objects of a whole entry, and records of curves. Assumes nothing.
+-- Objects of a whole entry, records of curves, and the matrices of a rotation. Assumes nothing.
 use Prim.Native.Nat.{ℕ, _+_, _*_, _≤_, _<_}
 use mathlib.Core.Bool.{Bool, true, false}
-use mathlib.Core.List.{List}
+use mathlib.Core.List.{List, map}
 use mathlib.Core.Path.{_≡_, refl, sym, ap, subst, _∙_}
 use native.Mathlib.Nat.{add-zero}
 use native.Mathlib.Omega.{arith}
@@ -11,9 +11,10 @@ use Rattle.util.specs.Fixed.{fix1-3-12, fixed}
 use Rattle.util.specs.View.{little, wordAt, view}
 use Rattle.util.specs.Reader.{accepted, run}
 use Rattle.util.proofs.Each.{each-read}
-use Rattle.util.proofs.ViewLaws.{view-length, view-there, word-part}
+use Rattle.util.proofs.ViewLaws.{map-at, view-length, view-there, word-part}
 use Rattle.curve.specs.declared.ScalarCurve.{ScalarCurve}
 use Rattle.curve.specs.Curve.{none, numberOf, scalarCurve, recorded, Inside}
+use Rattle.matrix.specs.declared.Mat3.{Mat3}
 use Rattle.rotation.specs.Rotation.{pivotMat, basisMat}
 use Rattle.animation.specs.declared.Animation.{Animation as Known}
 use Rattle.animation.specs.declared.Tables.{Tables}
@@ -22,7 +23,7 @@ use Rattle.animation.specs.declared.ObjectRead.{ObjectRead}
 use Rattle.curve.specs.declared.SampleList.{SampleList}
 use Rattle.animation.specs.declared.RotationCurve.{RotationCurve}
 use Rattle.animation.specs.Animation.{Object, noAxes, object, pivotOf, basisOf}
-use Rattle.animation.specs.AnimationCode.{tablesAt, objectCurves, ObjectReads, WholeAnimation, matrixOf, referenceEnd, rotationCurve}
+use Rattle.animation.specs.AnimationCode.{tablesAt, objectCurves, ObjectReads, WholeAnimation, matrixOf, referenceEnd, references, rotationCurve, InsideReferences}
 use Rattle.trs.specs.declared.RotationRecord.{RotationRecord}
 use Rattle.trs.specs.declared.ScalarRecord.{ScalarRecord}
 use Rattle.trs.specs.Trs.{ObjectStands, listRecord, scalarRecord, recordedOf, rotationOf, RoomFor}
@@ -94,6 +95,28 @@ module _ (t : Tables) (s : List ℕ) (x i : ℕ) (e : i ≡ bits x 0 15) (b : Bo
   unfolding matrixOf
   basis-matrix h = rw (e, sym k ∙ h) refl
 
+-- the matrices of a list of references
+module _ (t : Tables) (s : List ℕ) (l : SampleList) where
+  abbrev matrices : List Mat3
+  matrices = map (matrixOf t s) (references s l)
+
+  many : length (references s l) ≡ l .length
+  many = view-length 2 little (l .length) (drop (l .place) s)
+
+  pub matrix-count : length matrices ≡ l .length
+  matrix-count = length-map (references s l) (matrixOf t s) ∙ many
+
+  -- reference k, as code reads it
+  module _ (k : ℕ) (h : k < l .length) (x : ℕ) (e : x ≡ wordAt 2 s (l .place + 2 * k)) where
+    read : x ≡ getD (references s l) k 0
+    read = e ∙ sym (view-there 2 little (l .length) k (l .place) s 0 h)
+
+    pub reference-inside : InsideReferences t s l → referenceEnd t x ≤ length s
+    reference-inside i = rw read (i .records k h)
+
+    pub matrix-there : (r : Mat3) → r ≡ matrixOf t s x → (default : Mat3) → r ≡ getD matrices k default
+    matrix-there r q default = q ∙ ap (matrixOf t s) read ∙ sym (map-at (matrixOf t s) (references s l) k 0 default (rw many h))
+
 -- the records of a rotation curve are the specification's
 pub none-recorded : (t : Tables) (s : List ℕ) (entry : ℕ) (c : RotationCurve) → c ≡ RotationCurve.None → RotationRecord.None ≡ rotationOf (recorded entry (rotationCurve t s c))
 unfolding recorded
@@ -105,4 +128,4 @@ constant-recorded t s entry c x h = rw h refl
 
 pub list-recorded : (t : Tables) (s : List ℕ) (entry : ℕ) (c : RotationCurve) (l : SampleList) → c ≡ RotationCurve.Samples l → RotationRecord.List (listRecord l entry) ≡ rotationOf (recorded entry (rotationCurve t s c))
 unfolding recorded
-list-recorded t s entry c l h = rw (h, length-map (view 2 little (l .length) (drop (l .place) s)) (matrixOf t s), view-length 2 little (l .length) (drop (l .place) s)) refl
+list-recorded t s entry c l h = rw (h, matrix-count t s l) refl

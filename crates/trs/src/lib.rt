@@ -9,20 +9,30 @@ use animation::no_axes;
 use animation::read_object;
 use curve::SampleList;
 use curve::ScalarCurve;
+use curve::lerp_mat;
+use curve::locate;
+use curve::sample_scalar;
+use matrix::Col3;
 use matrix::Mat3;
+use matrix::Mat4;
+use matrix::identity;
+use matrix::trs;
 use rotation::basis_mat;
 use rotation::pivot_mat;
 use util::bits::bit16;
 use util::bits::bits16;
 use util::fixed::Fix1_3_12;
 use util::view::word16;
-use util::view::word32;
 ghost use mathlib.Core.Path.{_≡_};
+ghost use mathlib.Core.List.{map};
 ghost use Prim.Native.Nat.{_+_, _<_, _≤_};
-ghost use lib.ListN.{length, take, drop};
-ghost use Rattle.curve.specs.Curve.{recorded};
-ghost use Rattle.animation.specs.Animation.{pivotOf, basisOf};
-ghost use Rattle.animation.specs.AnimationCode.{WholeAnimation, tablesAt, matrixOf, referenceEnd, rotationCurve, InsideRotation};
+ghost use lib.Ieee.{Float};
+ghost use lib.ListN.{length, take, drop, getD};
+ghost use Rattle.curve.specs.Curve.{recorded, mixMat, sampleAt};
+ghost use Rattle.matrix.specs.declared.Mat3 as mat3;
+ghost use Rattle.matrix.specs.Matrix.{identity3};
+ghost use Rattle.animation.specs.Animation.{pivotOf, basisOf, axesAt, matrixAt};
+ghost use Rattle.animation.specs.AnimationCode.{WholeAnimation, matrixOf, referenceEnd, references, rotationCurve, axisCurves, objectCurves, InsideAxes, InsideReferences, InsideRotation, InsideObject};
 ghost use Rattle.trs.specs.Trs.{ObjectStands, scalarRecord, RoomFor, RoomForAxes, axisRecord, rotationOf};
 
 // A list's record; the place counts from the section's start.
@@ -159,17 +169,6 @@ fn matrix_of(s: &[u8], t: Tables, x: u16) -> Mat3
     }
 }
 
-// Where the tables of an entry stand.
-pub fn read_tables(s: &[u8]) -> Tables
-    requires { ⌜ 20 ≤ length (now s) ⌝ }
-    ensures { λ r. ⌜ (r ≡ tablesAt (now (s .entry))) × (r .pivot < 4294967296) × (r .basis < 4294967296) ⌝ }
-{
-    Tables {
-        pivot: word32(s, 12) as usize,
-        basis: word32(s, 16) as usize,
-    }
-}
-
 // A rotation curve's record, in an entry that stands at `entry`.
 pub fn record_rotation(s: &[u8], t: Tables, c: RotationCurve, entry: usize) -> RotationRecord
     requires { ⌜ InsideRotation t (now s) c × (t .pivot < 4294967296) × (t .basis < 4294967296) × (entry + length (now s) < 18446744073709551616) ⌝ }
@@ -180,4 +179,76 @@ pub fn record_rotation(s: &[u8], t: Tables, c: RotationCurve, entry: usize) -> R
         RotationCurve::Constant(x) => RotationRecord::Constant(matrix_of(s, t, x)),
         RotationCurve::Samples(l) => RotationRecord::List(list_record(l, entry)),
     }
+}
+
+// Value k of a rotation's list: the matrix that its reference leads to.
+fn rotation_value(s: &[u8], t: Tables, l: SampleList, k: usize) -> Mat3
+    requires { ⌜ InsideReferences t (now s) l × (t .pivot < 4294967296) × (t .basis < 4294967296) × (k < l .length) ⌝ }
+    ensures { λ r. ⌜ ((default : mat3.Mat3) → r ≡ getD (map (matrixOf t (now (s .entry))) (references (now (s .entry)) l)) k default) ⌝ }
+{
+    matrix_of(s, t, word16(s, l.place + 2 * k))
+}
+
+// A rotation's list that is not empty, at a frame.
+fn sample_rotations(s: &[u8], t: Tables, l: SampleList, frame: u16) -> Mat3
+    requires { ⌜ InsideReferences t (now s) l × (t .pivot < 4294967296) × (t .basis < 4294967296) × (1 ≤ l .length) ⌝ }
+    ensures { λ r. ⌜ r ≡ sampleAt mixMat identity3 (rotationCurve t (now (s .entry)) (RotationCurve.Samples l)) frame ⌝ }
+{
+    if frame <= l.start {
+        return rotation_value(s, t, l, 0);
+    }
+    if l.end - 1 <= frame {
+        return rotation_value(s, t, l, l.length - 1);
+    }
+    let p = locate(l.start, l.end, frame, l.length as u64);
+    let lo = rotation_value(s, t, l, p.lo as usize);
+    let hi = rotation_value(s, t, l, p.hi as usize);
+    lerp_mat(lo, hi, p.g)
+}
+
+// A rotation at a frame: the identity where it has no value.
+fn sample_rotation(s: &[u8], t: Tables, c: RotationCurve, frame: u16) -> Mat3
+    requires { ⌜ InsideRotation t (now s) c × (t .pivot < 4294967296) × (t .basis < 4294967296) ⌝ }
+    ensures { λ r. ⌜ r ≡ sampleAt mixMat identity3 (rotationCurve t (now (s .entry)) c) frame ⌝ }
+{
+    match c {
+        RotationCurve::None => identity(),
+        RotationCurve::Constant(x) => matrix_of(s, t, x),
+        RotationCurve::Samples(l) => {
+            if l.length == 0 {
+                return identity();
+            }
+            sample_rotations(s, t, l, frame)
+        }
+    }
+}
+
+// The three axes at a frame.
+pub fn sample_axes(s: &[u8], a: AxisCurves, default: f64, frame: u16) -> Col3
+    requires { ⌜ InsideAxes (now s) a ⌝ }
+    ensures { λ r. ⌜ r ≡ axesAt default (axisCurves (now (s .entry)) a) frame ⌝ }
+{
+    let x = a.x;
+    let y = a.y;
+    let z = a.z;
+    Col3 {
+        x: sample_scalar(s, x, default, frame),
+        y: sample_scalar(s, y, default, frame),
+        z: sample_scalar(s, z, default, frame),
+    }
+}
+
+// An object's matrix at a frame.
+pub fn sample_at(s: &[u8], t: Tables, c: TRSCurves, frame: u16) -> Mat4
+    requires { ⌜ InsideObject t (now s) c × (t .pivot < 4294967296) × (t .basis < 4294967296) ⌝ }
+    ensures { λ r. ⌜ r ≡ matrixAt (objectCurves t (now (s .entry)) c) frame ⌝ }
+{
+    let translation = c.trans;
+    let rotation = c.rotation;
+    let scale = c.scale;
+    trs(
+        sample_axes(s, translation, 0.0, frame),
+        sample_rotation(s, t, rotation, frame),
+        sample_axes(s, scale, 1.0, frame),
+    )
 }

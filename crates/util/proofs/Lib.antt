@@ -8,3 +8,4 @@ pub mod FixedLaws
 pub mod WithinLaws
 pub mod ViewLaws
 pub mod All
+pub mod WritesLaws

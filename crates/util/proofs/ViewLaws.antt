@@ -1,17 +1,17 @@
--- Laws of words and of `same`. Assumes nothing.
-use Prim.Native.Nat.{ℕ, zero, suc, _+_, _*_, _^_, _≤_, _<_}
+-- Laws of words, read and written, and of `same`. Assumes nothing.
+use Prim.Native.Nat.{ℕ, zero, suc, _+_, _-_, _*_, _/_, _%_, _^_, _≤_, _<_}
 use mathlib.Core.Bool.{Bool, true, false, cond, false≢true}
-use mathlib.Core.List.{List, [], _∷_}
+use mathlib.Core.List.{List, [], _∷_, map}
 use mathlib.Core.Path.{_≡_, refl, sym, ap, _∙_}
 use native.Mathlib.Nat.{mul-zero, mul-suc, add-comm, zero-add, suc-add, add-zero, pow-suc, mul-add, mul-right-comm, mul-comm, add-assoc}
 use native.Mathlib.Omega.{arith}
 use borrow.Author.Tests.{eqb-true, eq-eqb, ne-eqb}
 use lib.Dec.{eqb}
-use lib.ListN.{length, take, drop, getD}
-use lib.Seq.{drop-cons, drop-drop, take-take, take-nil, getD-take}
+use lib.ListN.{length, set, take, drop, getD}
+use lib.Seq.{sets, drop-cons, drop-drop, take-take, take-nil, getD-take}
 use native.Mathlib.Numerals.{add-one}
 use Rattle.util.proofs.Cut.{take-drop-take}
-use Rattle.util.specs.View.{little, wordAt, view, same}
+use Rattle.util.specs.View.{little, littleBytes, wordAt, view, same}
 
 both : (x y : Bool) → cond x y false ≡ true → (x ≡ true) × (y ≡ true)
 both true y e = (refl, e)
@@ -61,6 +61,12 @@ unfolding little
 word-one s p h = omega (arith, word-step 0 s p h)
 
 -- ---- lists of items
+
+-- item i of a mapped list, whatever the defaults
+pub map-at : {A B : Type 0} (f : A → B) (xs : List A) (i : ℕ) (d : A) (e : B) → i < length xs → getD (map f xs) i e ≡ f (getD xs i d)
+map-at f [] i d e h = absurd (omega arith)
+map-at f (x ∷ xs) zero d e h = refl
+map-at f (x ∷ xs) (suc i) d e h = map-at f xs i d e (omega arith)
 
 drop-take : (a b : ℕ) (l : List ℕ) → drop a (take (a + b) l) ≡ take b (drop a l)
 drop-take zero b l = rw (zero-add b) refl
@@ -112,3 +118,25 @@ same-one s b k h = rw (getD-take k s 0 0 h) (whole (eqb (getD s 0 0) (getD b 0 0
     whole : (x : Bool) → cond x true false ≡ x
     whole true = refl
     whole false = refl
+
+-- ---- eight bytes, written one by one
+
+pub byte-written : (xs : List ℕ) (at i n : ℕ) → i < 8
+    → sets xs (at + i) (littleBytes (8 - i) n) ≡ sets (set xs (at + i) (n % 256)) (at + (i + 1)) (littleBytes (8 - (i + 1)) (n / 256))
+unfolding littleBytes
+byte-written xs at i n h =
+    ap (λ (k : ℕ). sets xs (at + i) (littleBytes k n)) (left i h)
+    ∙ ap (λ (j : ℕ). sets (set xs (at + i) (n % 256)) j (littleBytes (8 - (i + 1)) (n / 256))) (next at i)
+  where
+    left : (i : ℕ) → i < 8 → 8 - i ≡ suc (8 - (i + 1))
+    left i h = omega arith
+
+    next : (at i : ℕ) → suc (at + i) ≡ at + (i + 1)
+    next at i = omega arith
+
+pub bytes-written : (xs : List ℕ) (at i n : ℕ) → 8 ≤ i → xs ≡ sets xs (at + i) (littleBytes (8 - i) n)
+unfolding littleBytes
+bytes-written xs at i n h = sym (ap (λ (k : ℕ). sets xs (at + i) (littleBytes k n)) (none i h))
+  where
+    none : (i : ℕ) → 8 ≤ i → 8 - i ≡ 0
+    none i h = omega arith

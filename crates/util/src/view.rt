@@ -1,9 +1,10 @@
-// Little-endian words of a slice.
+// Little-endian words of a slice, read and written.
 ghost use mathlib.Core.List.{[], _∷_};
 ghost use mathlib.Core.Path.{_≡_};
-ghost use Prim.Native.Nat.{_+_, _≤_};
+ghost use Prim.Native.Nat.{_+_, _%_, _≤_};
 ghost use lib.ListN.{length, take};
-ghost use Rattle.util.specs.View.{wordAt, same};
+ghost use lib.Seq.{sets};
+ghost use Rattle.util.specs.View.{wordAt, same, littleBytes};
 
 pub fn byte(s: &[u8], p: usize) -> u8
     requires { ⌜ p + 1 ≤ length (now s) ⌝ }
@@ -48,4 +49,22 @@ pub fn starts_with(s: &[u8], a: u8, b: u8, c: u8, d: u8) -> bool
         return false;
     }
     s[0] == a
+}
+
+fn low_byte(n: u64) -> u8
+    ensures { λ r. ⌜ r ≡ n % 256 ⌝ }
+{
+    (n % 256) as u8
+}
+
+// The eight bytes of n, from `at` on.
+pub fn put64(out: &mut [u8], at: usize, n: u64)
+    requires { ⌜ at + 8 ≤ length (now out) ⌝ }
+    ensures { λ _. ⌜ now (out .exit) ≡ sets (now (out .entry)) at (littleBytes 8 n) ⌝ }
+{
+    let mut rest = n;
+    for i in 0..8usize {
+        out[at + i] = low_byte(rest);
+        rest = rest / 256;
+    }
 }

@@ -38,7 +38,7 @@ returns-2 c =
     let b = l .before .before .before in
     let a = b .before .before .args in
     let k = b .before .before .pre in
-    code-whole (a .numbers) (a .w) (a .place) (a .next) (a .reach) (a .s .now) _ _ (b .number-size .ensures) (l .before .before .sample-list .ensures) _ _ (c .before .number-of .ensures) (c .greater .ensures) (k .0) (k .1) (k .2) (l .if1 .left)
+    code-whole (a .numbers) (a .w) (a .place) (a .next) (a .reach) (a .s .now) _ _ (b .number-size .ensures) (l .before .before .sample-list .ensures) _ _ (c .before .number-of .ensures) (c .greater .ensures) (k .0) (k .1) (l .if1 .left)
 
 pub read-values-spec : {M : Type 1} → statement M
 read-values-spec =

@@ -1,6 +1,7 @@
 -- `curve::sample_list` meets its contract. Assumes nothing.
 use native.Mathlib.Omega.{arith}
-use Rattle.curve.proofs.SampleLaws.{value-inside, sample-first, sample-last, sample-between}
+use Rattle.curve.specs.Curve.{mix}
+use Rattle.curve.proofs.SampleLaws.{value-count, value-inside, value-there, sample-first, sample-last, sample-between}
 use borrow.Author.Needs.{needs}
 use Rattle.curve.proofs.sample_list.Statement.{statement}
 use Rattle.curve.proofs.sample_list.Tie as tie
@@ -13,10 +14,11 @@ returns c default =
     let t = c .before in
     let z = t .before .before .before in
     let a = z .args in
-    sample-first (a .s .now) (a .l) (a .number) (z .pre .0) (z .pre .1) (a .frame) default (t .if1 .taken) _ (c .value .ensures)
+    let there = value-there (a .s .now) (a .l) (a .number) (z .pre .0) default in
+    sample-first mix default (a .l) _ (value-count (a .s .now) (a .l) (a .number)) (a .frame) (z .pre .1) (t .if1 .taken) _ (there _ (z .pre .1) _ (c .value .ensures))
 
 sub-if2 : tie.Need-sub-if2
-sub-if2 c = let z = c .before .before .before .before in omega (arith, z .pre .0 .frames (z .pre .1))
+sub-if2 c = search needs
 
 sub-value : tie.Need-sub-value
 sub-value c = search needs
@@ -33,7 +35,8 @@ returns-2 c default =
     let f = t .before .before in
     let z = f .before .before .before in
     let a = z .args in
-    sample-last (a .s .now) (a .l) (a .number) (z .pre .0) (z .pre .1) (a .frame) default (f .if1 .left) (t .if2 .taken) _ (c .value2 .ensures)
+    let there = value-there (a .s .now) (a .l) (a .number) (z .pre .0) default in
+    sample-last mix default (a .l) _ (value-count (a .s .now) (a .l) (a .number)) (a .frame) (z .pre .1) (f .if1 .left) (t .if2 .taken) _ (there _ (omega arith) _ (c .value2 .ensures))
 
 locate-requires : tie.Need-locate-requires
 locate-requires c κs = search needs
@@ -63,7 +66,9 @@ returns-3 c default =
     let f = t .before .before in
     let z = f .before .before .before in
     let a = z .args in
-    sample-between (a .s .now) (a .l) (a .number) (z .pre .0) (z .pre .1) (a .frame) default (f .if1 .left) (t .if2 .left) _ (p .locate .ensures) _ _ _ (lo .value3 .ensures) (hi .value4 .ensures) (c .lerp .ensures)
+    let there = value-there (a .s .now) (a .l) (a .number) (z .pre .0) default in
+    let q = p .locate .ensures in
+    sample-between mix default (a .l) _ (value-count (a .s .now) (a .l) (a .number)) (a .frame) (z .pre .1) (f .if1 .left) (t .if2 .left) _ (q .0) _ _ _ (there _ (omega arith) _ (lo .value3 .ensures)) (there _ (q .2) _ (hi .value4 .ensures)) (c .lerp .ensures)
 
 pub sample-list-spec : {M : Type 1} → statement M
 sample-list-spec =

@@ -36,7 +36,7 @@ returns : tie.Need-returns
 returns c = no-frames _ (c .enum-told .given .1)
 
 returns-2 : tie.Need-returns-2
-returns-2 c = frames-count _ _ _ _ (c .before .self .given .1) (c .before .before .before .pre)
+returns-2 c = frames-count _ _ _ _ (c .before .self .given .1) (c .before .before .before .pre) (omega arith)
 
 pub num-frames-spec : {M : Type 1} → statement M
 num-frames-spec =

@@ -3,7 +3,7 @@ use mathlib.Core.Path.{refl, sym, ap, subst, _∙_}
 use native.Mathlib.Omega.{arith}
 use lib.ListN.{drop}
 use Rattle.motion.specs.Calls.{translationCurve}
-use Rattle.motion.specs.JntCode.{ObjectOpenIs}
+use Rattle.motion.specs.Opened.{ObjectOpens}
 use Rattle.motion.specs.Answers.{curveOf}
 use Rattle.motion.proofs.JntLaws.{room-axes, room-left, translation-recorded}
 use borrow.Author.Needs.{needs}
@@ -23,23 +23,23 @@ record-axis-requires : tie.Need-record-axis-requires
 record-axis-requires c κs =
     let b = c .before .before in
     let a = b .before .before .before .before .args in
-    let w = subst (ObjectOpenIs (a .s .now) (a .entry) (a .object)) (b .e .given .1) (b .before .before .open-object .ensures) in
-    let l = room-left (a .s .now) (a .entry) (a .object) _ _ w in
+    let w = subst (ObjectOpens (a .s .now) (a .entry) (a .object)) (b .e .given .1) (b .before .before .open-object .ensures) in
+    let l = room-left (a .s .now) (a .entry) (a .object) _ _ _ w in
     room-axes (drop (b .e .given .0 .0 .offset) (a .s .now)) _ _ (w .curves .inside .trans) (omega arith)
 
 returns : tie.Need-returns
 returns c =
     let b = c .before in
     let a = b .before .before .before .before .args in
-    let w = subst (ObjectOpenIs (a .s .now) (a .entry) (a .object)) (b .n .given .1) (b .before .before .open-object .ensures) in
+    let w = subst (ObjectOpens (a .s .now) (a .entry) (a .object)) (b .n .given .1) (b .before .before .open-object .ensures) in
     ap curveOf (sym (w (translationCurve (a .object) (a .axis)) refl))
 
 returns-2 : tie.Need-returns-2
 returns-2 c =
     let b = c .before .before .before in
     let a = b .before .before .before .before .args in
-    let w = subst (ObjectOpenIs (a .s .now) (a .entry) (a .object)) (b .e .given .1) (b .before .before .open-object .ensures) in
-    c .record-axis .ensures ∙ translation-recorded (a .s .now) (a .entry) (a .object) _ _ w (a .axis)
+    let w = subst (ObjectOpens (a .s .now) (a .entry) (a .object)) (b .e .given .1) (b .before .before .open-object .ensures) in
+    c .record-axis .ensures ∙ translation-recorded (a .s .now) (a .entry) (a .object) _ _ _ w (a .axis)
 
 pub translation-curve-spec : {M : Type 1} → statement M
 translation-curve-spec =

@@ -1,0 +1,37 @@
+-- `trs::sample_at` meets its contract. Assumes nothing.
+use mathlib.Core.Path.{refl}
+use lib.Ieee.{ofBits}
+use Rattle.animation.specs.Animation.{matrixAt}
+use borrow.Author.Needs.{needs}
+use Rattle.trs.proofs.sample_at.Statement.{statement}
+use Rattle.trs.proofs.sample_at.Tie as tie
+
+sample-axes-requires : tie.Need-sample-axes-requires
+sample-axes-requires c κs = search needs
+
+sample-rotation-requires : tie.Need-sample-rotation-requires
+sample-rotation-requires c κs = search needs
+
+sample-axes-requires-2 : tie.Need-sample-axes-requires-2
+sample-axes-requires-2 c κs = search needs
+
+trs-requires : tie.Need-trs-requires
+trs-requires c κs = search needs
+
+returns : tie.Need-returns
+unfolding matrixAt ofBits
+returns c =
+    let s = c .before in
+    let r = s .before in
+    let t = r .before in
+    rw (c .trs .ensures, s .sample-axes2 .ensures, r .sample-rotation .ensures, t .sample-axes .ensures) refl
+
+pub sample-at-spec : {M : Type 1} → statement M
+sample-at-spec =
+    tie.close
+    (tie.spec
+    sample-axes-requires
+    sample-rotation-requires
+    sample-axes-requires-2
+    trs-requires
+    returns)

@@ -1,0 +1,333 @@
+//! Each call against the Rust, on one section.
+use crate::oracle::{self, Entry, Value};
+use crate::rng::Rng;
+use apicula::convert::gltf::curve::GlTFObjectCurves;
+use apicula::nitro::animation::{Curve, TRSCurves};
+use apicula::nitro::rotation::{basis_mat, pivot_mat};
+use apicula::util::bits::BitField;
+use apicula::util::fixed::{fix16, fix32};
+use apicula::{Matrix3, Vector3};
+use motion::Refusal;
+use std::panic::{catch_unwind, AssertUnwindSafe};
+
+/// How much was compared.
+#[derive(Default)]
+pub struct Counts {
+    pub sections: usize,
+    pub entries: usize,
+    pub accepted: usize,
+    /// Sections and entries refused with each number.
+    pub refused: [usize; 14],
+    pub matrices: usize,
+    pub choices: usize,
+    pub curves: usize,
+    pub resampled: usize,
+    pub cuts: usize,
+}
+
+/// What did not agree.
+pub type Agreed = Result<(), String>;
+
+macro_rules! agree {
+    ($left:expr, $right:expr, $($what:tt)+) => {
+        let (left, right) = ($left, $right);
+        if left != right {
+            return Err(format!("{}: here {:?}, the Rust {:?}", format!($($what)+), left, right));
+        }
+    };
+}
+
+fn bits(m: [[f64; 4]; 4]) -> Vec<u64> {
+    m.iter().flatten().map(|x| x.to_bits()).collect()
+}
+
+fn word16(s: &[u8], p: usize) -> u16 {
+    u16::from_le_bytes([s[p], s[p + 1]])
+}
+
+fn word32(s: &[u8], p: usize) -> u32 {
+    u32::from_le_bytes([s[p], s[p + 1], s[p + 2], s[p + 3]])
+}
+
+/// Frames around those where something changes, and others.
+fn frames(around: &[u16], rng: &mut Rng) -> Vec<u16> {
+    let mut frames = vec![0, 1, 2, 3, 65535, rng.next() as u16, rng.below(16) as u16, rng.below(300) as u16];
+    for &f in around {
+        frames.extend([f.wrapping_sub(2), f.wrapping_sub(1), f, f.wrapping_add(1)]);
+    }
+    frames
+}
+
+/// Everything that the Rust says of a section.
+pub fn section(s: &[u8], rng: &mut Rng, counts: &mut Counts) -> Agreed {
+    counts.sections += 1;
+    let read = match oracle::read(s) {
+        Err(n) => {
+            agree!(motion::find(s, &[0; 16]), Err(Refusal(n)), "finding in a refused section");
+            agree!(motion::check(s, 0), Err(Refusal(n)), "the check in a refused section");
+            agree!(motion::number(s, 7), n, "the number of a check in a refused section");
+            counts.refused[n as usize] += 1;
+            return Ok(());
+        }
+        Ok(entries) => entries,
+    };
+    agree!(read.iter().filter(|e| e.value.is_ok()).count(), oracle::kept(s), "the entries that the Rust keeps");
+    finding(s, &read)?;
+    agree!(motion::check(s, read.len()), Err(Refusal(9)), "the entry after the last");
+    agree!(motion::check(s, usize::MAX), Err(Refusal(9)), "the last index there is");
+    for (i, e) in read.into_iter().enumerate() {
+        entry(s, i, e, rng, counts).map_err(|m| format!("entry {i}: {m}"))?;
+    }
+    Ok(())
+}
+
+fn finding(s: &[u8], read: &[Entry]) -> Agreed {
+    for e in read {
+        match motion::find(s, &e.name) {
+            Ok(Some(i)) if i < read.len() && read[i].name == e.name => {}
+            other => return Err(format!("finding {:?} gives {other:?}", e.name)),
+        }
+    }
+    let other = *b"no entry's name!";
+    let there = read.iter().any(|e| e.name == other);
+    agree!(motion::find(s, &other).map(|i| i.is_some()), Ok(there), "finding a name that is not there");
+    Ok(())
+}
+
+fn entry(s: &[u8], i: usize, e: Entry, rng: &mut Rng, counts: &mut Counts) -> Agreed {
+    counts.entries += 1;
+    if oracle::too_many_objects(s, e.offset) {
+        agree!(motion::check(s, i), Err(Refusal(12)), "more than 99 objects");
+        counts.refused[12] += 1;
+        return Ok(());
+    }
+    let value = match e.value {
+        Err(n) => {
+            agree!(motion::check(s, i), Err(Refusal(n)), "the check of a refused entry");
+            agree!(motion::number(s, i), n, "the number of a refused entry");
+            let mut out = [5; 130];
+            let call = motion::matrix_bytes(s, i, 0, 0, &mut out);
+            agree!(call, Err(Refusal(if s.starts_with(b"JNT0") { n } else { 1 })), "the matrix of a refused entry");
+            agree!(out, [5; 130], "the slice of a refused matrix");
+            counts.refused[n as usize] += 1;
+            return Ok(());
+        }
+        Ok(value) => value,
+    };
+    counts.accepted += 1;
+    let record = motion::check(s, i).map_err(|n| format!("{n}, where the Rust accepts"))?;
+    agree!(motion::number(s, i), 0, "the number of an accepted entry");
+    agree!(record.name, e.name, "the name");
+    reach(s, i, record.reach)?;
+    match value {
+        Value::Jnt(a) => {
+            agree!((record.frames, record.count), (a.num_frames, a.objects_curves.len()), "frames and objects");
+            agree!(motion::matrix(s, i, record.count, 0), Err(Refusal(9)), "the object after the last");
+            for (o, curves) in a.objects_curves.into_iter().enumerate() {
+                object(s, i, o, e.offset, curves, rng, counts).map_err(|m| format!("object {o}: {m}"))?;
+            }
+        }
+        Value::Srt(a) => {
+            agree!((record.frames, record.count), (a.num_frames, a.tracks.len()), "frames and tracks");
+            agree!(motion::uv_matrix(s, i, record.count, 0), Err(Refusal(9)), "the track after the last");
+            for (t, track) in a.tracks.iter().enumerate() {
+                agree!(motion::material_name(s, i, t), Ok(track.name.0), "the name of track {t}");
+                agree!(motion::channel_curve(s, i, t, 5), Err(Refusal(9)), "channel 5");
+                let mut ends = Vec::new();
+                for (c, channel) in track.channels.iter().enumerate() {
+                    let curve = motion::channel_curve(s, i, t, c);
+                    scalar(s, curve, &channel.curve, &|s, p, _| fix16(word16(s, p), 1, 10, 5))
+                        .map_err(|m| format!("track {t}, channel {c}: {m}"))?;
+                    ends.push(channel.num_frames);
+                    counts.curves += 1;
+                }
+                for frame in frames(&ends[3..], rng) {
+                    let m = motion::uv_matrix(s, i, t, frame).map(bits);
+                    agree!(m, Ok(bits(track.eval_uv_mat(frame).columns)), "the matrix of track {t} at frame {frame}");
+                    counts.matrices += 1;
+                }
+            }
+        }
+        Value::Pat(a) => {
+            agree!((record.frames, record.count), (a.num_frames, a.material_tracks.len()), "frames and tracks");
+            agree!(motion::choice(s, i, record.count, 0), Err(Refusal(9)), "the track after the last");
+            for (place, names) in [(motion::texture_names(s, i), &a.texture_names), (motion::palette_names(s, i), &a.palette_names)] {
+                let place = place.map_err(|n| format!("a list of names: {n}"))?;
+                agree!(place.length, names.len(), "how many names there are");
+                for (k, name) in names.iter().enumerate() {
+                    agree!(&s[place.place + 16 * k..][..16], &name.0[..], "name {k}");
+                }
+            }
+            for (t, track) in a.material_tracks.iter().enumerate() {
+                agree!(motion::pattern_name(s, i, t), Ok(track.name.0), "the name of track {t}");
+                let place = motion::keys(s, i, t).map_err(|n| format!("keys: {n}"))?;
+                agree!(place.length, track.keyframes.len(), "how many keys track {t} has");
+                let mut changes = Vec::new();
+                for (k, key) in track.keyframes.iter().enumerate() {
+                    let bytes = &s[place.place + 4 * k..][..4];
+                    let [lo, hi] = key.frame.to_le_bytes();
+                    agree!(bytes, &[lo, hi, key.texture_idx, key.palette_idx][..], "key {k} of track {t}");
+                    changes.push(key.frame);
+                }
+                for frame in frames(&changes, rng) {
+                    let chosen = motion::choice(s, i, t, frame).map(|c| (c.texture, c.palette));
+                    // without keys the Rust panics
+                    let expected = catch_unwind(AssertUnwindSafe(|| track.sample(frame))).map_err(|_| Refusal(10));
+                    agree!(chosen, expected, "the choice of track {t} at frame {frame}");
+                    counts.choices += 1;
+                }
+            }
+        }
+    }
+    Ok(())
+}
+
+/// The reach: with it the Rust accepts the entry, with a byte less it does not.
+fn reach(s: &[u8], i: usize, reach: usize) -> Agreed {
+    let accepts = |front: &[u8]| matches!(oracle::read(front), Ok(entries) if entries[i].value.is_ok());
+    agree!(accepts(&s[..reach]), true, "the entry in the {reach} bytes of its reach");
+    agree!(accepts(&s[..reach - 1]), false, "the entry in a byte less than its reach of {reach}");
+    Ok(())
+}
+
+/// A curve of numbers: its record, and the values that stand at its place.
+fn scalar(s: &[u8], ours: motion::Result<motion::Curve<f64>>, theirs: &Curve<f64>, value: &dyn Fn(&[u8], usize, usize) -> f64) -> Agreed {
+    let ours = ours.map_err(|n| n.to_string())?;
+    match (ours, theirs) {
+        (motion::Curve::None, Curve::None) => Ok(()),
+        (motion::Curve::Constant(x), Curve::Constant(y)) => {
+            agree!(x.to_bits(), y.to_bits(), "the constant");
+            Ok(())
+        }
+        (motion::Curve::List(l), Curve::Samples { start_frame, end_frame, values }) => {
+            agree!((l.start, l.end, l.length), (*start_frame, *end_frame, values.len()), "start, end and length");
+            for (k, v) in values.iter().enumerate() {
+                agree!(value(s, l.place + l.size * k, l.size).to_bits(), v.to_bits(), "value {k}");
+            }
+            Ok(())
+        }
+        _ => Err(format!("another kind of curve: {ours:?}")),
+    }
+}
+
+fn rotation(s: &[u8], entry: usize, ours: motion::Result<motion::Curve<motion::Rotation>>, theirs: &Curve<Matrix3<f64>>) -> Agreed {
+    let ours = ours.map_err(|n| n.to_string())?;
+    let nine = |m: [[f64; 3]; 3]| m.iter().flatten().map(|x| x.to_bits()).collect::<Vec<_>>();
+    match (ours, theirs) {
+        (motion::Curve::None, Curve::None) => Ok(()),
+        (motion::Curve::Constant(m), Curve::Constant(n)) => {
+            agree!(nine(m), nine(n.columns), "the constant rotation");
+            Ok(())
+        }
+        (motion::Curve::List(l), Curve::Samples { start_frame, end_frame, values }) => {
+            agree!((l.start, l.end, l.length, l.size), (*start_frame, *end_frame, values.len(), 2), "start, end, length and size");
+            let (pivot, basis) = (entry + word32(s, entry + 12) as usize, entry + word32(s, entry + 16) as usize);
+            for (k, v) in values.iter().enumerate() {
+                let x = word16(s, l.place + 2 * k);
+                let n = x.bits(0, 15) as usize;
+                let m = if x >> 15 == 1 {
+                    let w = |k: usize| word16(s, pivot + 6 * n + 2 * k);
+                    pivot_mat(w(0).bits(0, 4), w(0).bits(4, 8), fix16(w(1), 1, 3, 12), fix16(w(2), 1, 3, 12))
+                } else {
+                    let w = |k: usize| word16(s, basis + 10 * n + 2 * k);
+                    basis_mat((w(0), w(1), w(2), w(3), w(4)))
+                };
+                agree!(nine(m.columns), nine(v.columns), "rotation {k}");
+            }
+            Ok(())
+        }
+        _ => Err(format!("another kind of curve: {ours:?}")),
+    }
+}
+
+fn ends<T>(c: &Curve<T>) -> Vec<u16> {
+    match c {
+        Curve::Samples { start_frame, end_frame, .. } => vec![*start_frame, (*start_frame + *end_frame) / 2, *end_frame],
+        _ => vec![],
+    }
+}
+
+fn object(s: &[u8], i: usize, o: usize, offset: usize, curves: TRSCurves, rng: &mut Rng, counts: &mut Counts) -> Agreed {
+    // two or four bytes a number, once for a translation and twice for a scale
+    let translation =
+        |s: &[u8], p: usize, size: usize| if size == 4 { fix32(word32(s, p), 1, 19, 12) } else { fix16(word16(s, p), 1, 3, 12) };
+    let scale = |s: &[u8], p: usize, size: usize| if size == 8 { fix32(word32(s, p), 1, 19, 12) } else { fix16(word16(s, p), 1, 3, 12) };
+    for axis in 0..3 {
+        scalar(s, motion::translation_curve(s, i, o, axis), &curves.trans[axis], &translation)
+            .map_err(|m| format!("translation {axis}: {m}"))?;
+        scalar(s, motion::scale_curve(s, i, o, axis), &curves.scale[axis], &scale).map_err(|m| format!("scale {axis}: {m}"))?;
+        counts.curves += 2;
+    }
+    agree!(motion::translation_curve(s, i, o, 3), Err(Refusal(9)), "axis 3");
+    rotation(s, offset, motion::rotation_curve(s, i, o), &curves.rotation)?;
+    counts.curves += 1;
+
+    let mut around = ends(&curves.rotation);
+    curves.trans.iter().chain(&curves.scale).for_each(|c| around.extend(ends(c)));
+    for frame in frames(&around, rng) {
+        let m = motion::matrix(s, i, o, frame).map(bits);
+        agree!(m, Ok(bits(curves.sample_at(frame).columns)), "the matrix at frame {frame}");
+        counts.matrices += 1;
+    }
+    let mut out = vec![3; rng.below(140)];
+    let before = out.clone();
+    let small = out.len() < 128;
+    agree!(motion::matrix_bytes(s, i, o, 1, &mut out).is_err(), small, "a matrix into {} bytes", before.len());
+    let written = if small { 0 } else { 128 };
+    agree!(&out[written..], &before[written..], "what stands behind the matrix");
+
+    let TRSCurves { trans, scale, .. } = curves;
+    resample(s, i, o, motion::resample_translation, trans, true, rng).map_err(|m| format!("translation resampled: {m}"))?;
+    resample(s, i, o, motion::resample_scale, scale, false, rng).map_err(|m| format!("scale resampled: {m}"))?;
+    counts.resampled += 2;
+    Ok(())
+}
+
+type Resample = fn(&[u8], usize, usize, &mut [f64], usize) -> motion::Result<motion::Resampled>;
+
+fn resample(s: &[u8], i: usize, o: usize, call: Resample, axes: [Curve<f64>; 3], is_translation: bool, rng: &mut Rng) -> Agreed {
+    let none = || [Curve::None, Curve::None, Curve::None];
+    let (trans, scale) = if is_translation { (axes, none()) } else { (none(), axes) };
+    let alone = TRSCurves { trans, rotation: Curve::None, scale };
+    // an empty list makes the Rust divide by zero
+    let theirs = catch_unwind(AssertUnwindSafe(|| {
+        let c = GlTFObjectCurves::for_trs_curves(&alone);
+        if is_translation {
+            c.translation
+        } else {
+            c.scale
+        }
+    }));
+    let place = rng.below(4);
+    let (needed, expected): (usize, Result<(Option<(u16, u16)>, Vec<Vector3<f64>>), u32>) = match theirs {
+        Err(_) => (0, Err(10)),
+        Ok(Curve::None) => (place, Ok((None, vec![]))),
+        Ok(Curve::Constant(_)) => return Err("the Rust gives a constant".into()),
+        Ok(Curve::Samples { start_frame, end_frame, values }) => (place + 3 * values.len(), Ok((Some((start_frame, end_frame)), values))),
+    };
+    let room = match rng.below(3) {
+        0 => needed.saturating_sub(1),
+        1 => needed,
+        _ => needed + rng.below(5),
+    };
+    let before: Vec<f64> = (0..room).map(|k| k as f64 + 0.25).collect();
+    let mut out = before.clone();
+    let ours = call(s, i, o, &mut out, place);
+    let mut after = before.clone();
+    let expected = match expected {
+        Err(n) => Err(Refusal(n)),
+        Ok(_) if room < needed => Err(Refusal(11)),
+        Ok((span, values)) => {
+            for (k, v) in values.iter().enumerate() {
+                after[place + 3 * k..][..3].copy_from_slice(&[v.x, v.y, v.z]);
+            }
+            Ok(motion::Resampled { span, frames: values.len() })
+        }
+    };
+    agree!(ours, expected, "the answer, from place {place} in {room}");
+    let as_bits = |floats: &[f64]| floats.iter().map(|x| x.to_bits()).collect::<Vec<_>>();
+    agree!(as_bits(&out), as_bits(&after), "the slice, from place {place} in {room}");
+    let far = call(s, i, o, &mut out, usize::MAX).err();
+    agree!(far, Some(Refusal(if ours == Err(Refusal(10)) { 10 } else { 11 })), "the last place there is");
+    Ok(())
+}

@@ -1,0 +1,98 @@
+//! What a cut does, tried on the compiled code: every call on the front, with other bytes behind it, and on the section as it was.
+use crate::agree::{Agreed, Counts};
+use crate::rng::Rng;
+
+/// The number of a call, and all that it answers as words.
+type Answer = Vec<u64>;
+
+fn words<T>(answer: motion::Result<T>, say: impl Fn(T) -> Vec<u64>) -> Answer {
+    match answer {
+        Err(n) => vec![n.0 as u64],
+        Ok(value) => [vec![0], say(value)].concat(),
+    }
+}
+
+fn floats(m: &[f64]) -> Vec<u64> {
+    m.iter().map(|x| x.to_bits()).collect()
+}
+
+fn curve<T>(c: motion::Curve<T>, say: impl Fn(T) -> Vec<u64>) -> Vec<u64> {
+    match c {
+        motion::Curve::None => vec![0],
+        motion::Curve::Constant(v) => [vec![1], say(v)].concat(),
+        motion::Curve::List(l) => vec![2, l.start as u64, l.end as u64, l.place as u64, l.length as u64, l.size as u64],
+    }
+}
+
+/// What every call answers on an entry: its index, its frames and its objects or tracks, past the last too.
+fn answers(s: &[u8], i: usize, count: usize) -> Vec<Answer> {
+    let mut all = vec![words(motion::check(s, i), |r| {
+        let name = u128::from_le_bytes(r.name);
+        vec![name as u64, (name >> 64) as u64, r.reach as u64, r.frames as u64, r.count as u64]
+    })];
+    let place = |p: motion::Place| vec![p.place as u64, p.length as u64];
+    let name = |n: [u8; 16]| n.iter().map(|&b| b as u64).collect();
+    all.push(words(motion::texture_names(s, i), place));
+    all.push(words(motion::palette_names(s, i), place));
+    for k in 0..=count.min(3) {
+        for frame in [0, 1, 3, 7, 200] {
+            all.push(words(motion::matrix(s, i, k, frame), |m| floats(m.as_flattened())));
+            all.push(words(motion::uv_matrix(s, i, k, frame), |m| floats(m.as_flattened())));
+            all.push(words(motion::choice(s, i, k, frame), |c| vec![c.texture as u64, c.palette as u64]));
+        }
+        for axis in 0..4 {
+            all.push(words(motion::translation_curve(s, i, k, axis), |c| curve(c, |x| vec![x.to_bits()])));
+            all.push(words(motion::scale_curve(s, i, k, axis), |c| curve(c, |x| vec![x.to_bits()])));
+            all.push(words(motion::channel_curve(s, i, k, axis + 2), |c| curve(c, |x| vec![x.to_bits()])));
+        }
+        all.push(words(motion::rotation_curve(s, i, k), |c| curve(c, |m| floats(m.as_flattened()))));
+        all.push(words(motion::material_name(s, i, k), name));
+        all.push(words(motion::pattern_name(s, i, k), name));
+        all.push(words(motion::keys(s, i, k), place));
+        for resample in [motion::resample_translation, motion::resample_scale] {
+            let mut out = [0.5; 40];
+            let mut answer = words(resample(s, i, k, &mut out, 2), |r| {
+                let (start, end) = r.span.unwrap_or((9, 9));
+                vec![r.span.is_some() as u64, start as u64, end as u64, r.frames as u64]
+            });
+            // what stands in the slice is a part of the answer
+            answer.extend(floats(&out));
+            all.push(answer);
+        }
+        let mut out = [1; 120];
+        all.push(words(motion::matrix_bytes(s, i, k, 0, &mut out), |_| vec![]));
+    }
+    all
+}
+
+/// Every cut of a section.
+pub fn every(s: &[u8], rng: &mut Rng, counts: &mut Counts) -> Agreed {
+    let entries = (0..).take_while(|&i| motion::number(s, i) != 9 && i < 4).count();
+    for i in 0..entries {
+        let record = motion::check(s, i);
+        let count = record.map_or(1, |r| r.count);
+        let uncut = answers(s, i, count);
+        for k in 0..=s.len() {
+            counts.cuts += 1;
+            let front = answers(&s[..k], i, count);
+            let n = rng.below(20);
+            let tail = [s[..k].to_vec(), rng.bytes(n)].concat();
+            let with_tail = answers(&tail, i, count);
+            for (call, before) in front.iter().enumerate() {
+                let at = |what| Err(format!("entry {i}, cut at {k}, call {call}: {what}"));
+                if before[0] != 0 && before[0] != 2 && with_tail[call][0] != before[0] {
+                    return at("a refusal did not stay");
+                }
+                if let Ok(r) = record {
+                    if r.reach <= k && (before != &uncut[call] || with_tail[call] != uncut[call]) {
+                        return at("another answer from the reach on");
+                    }
+                    if k < r.reach && before[0] != 2 && uncut[call][0] != 1 {
+                        return at("not too short before the reach");
+                    }
+                }
+            }
+        }
+    }
+    Ok(())
+}

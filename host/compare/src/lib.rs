@@ -1,0 +1,7 @@
+//! The parts of the comparison: sections, what the Rust answers on them, and whether the proved calls agree.
+pub mod agree;
+pub mod cuts;
+pub mod oracle;
+pub mod replay;
+pub mod rng;
+pub mod sections;

@@ -1,0 +1,135 @@
+//! compare [SEED] [SECTIONS]: holds every call to the Rust, on sections of every kind, and tries what a cut does.
+//! compare --store DIR: writes the list that crates/replay runs, DIR/stdin, and the Rust's answers, DIR/stdout.
+use compare::agree::{self, Agreed, Counts};
+use compare::rng::Rng;
+use compare::{cuts, replay, sections};
+use std::io::Write;
+
+struct Run {
+    seed: u64,
+    rng: Rng,
+    counts: Counts,
+}
+
+impl Run {
+    /// One section; a mismatch ends the run.
+    fn section(&mut self, what: &str, s: &[u8]) {
+        let agreed = agree::section(s, &mut self.rng, &mut self.counts);
+        self.held(what, s, agreed);
+        if self.counts.sections % 20_000 == 0 {
+            progress(&self.counts);
+        }
+    }
+
+    fn cuts(&mut self, s: &[u8]) {
+        let agreed = cuts::every(s, &mut self.rng, &mut self.counts);
+        self.held("cuts", s, agreed);
+    }
+
+    fn held(&self, what: &str, s: &[u8], agreed: Agreed) {
+        if let Err(message) = agreed {
+            let hex: String = s.iter().map(|b| format!("{b:02x}")).collect();
+            println!("\nmismatch in the {what}, seed {}\n{message}\nsection {hex}", self.seed);
+            std::process::exit(1);
+        }
+    }
+}
+
+fn progress(c: &Counts) {
+    eprint!("\r{} sections, {} cuts ", c.sections, c.cuts);
+    let _ = std::io::stderr().flush();
+}
+
+fn number(argument: Option<String>, default: usize) -> usize {
+    argument.map_or(default, |a| {
+        a.parse().unwrap_or_else(|_| {
+            eprintln!("compare [SEED] [SECTIONS]: {a:?} is no number");
+            std::process::exit(2)
+        })
+    })
+}
+
+fn store(folder: Option<String>) {
+    let Some(folder) = folder else {
+        eprintln!("compare --store DIR");
+        std::process::exit(2)
+    };
+    let (list, answers) = replay::stored(300);
+    for (file, bytes) in [("stdin", &list[..]), ("stdout", answers.as_bytes())] {
+        if let Err(e) = std::fs::write(format!("{folder}/{file}"), bytes) {
+            eprintln!("{folder}/{file} cannot be written: {e}");
+            std::process::exit(2)
+        }
+    }
+}
+
+fn main() {
+    let mut args = std::env::args().skip(1).peekable();
+    // the Rust's panics are answers here
+    std::panic::set_hook(Box::new(|_| {}));
+    if args.next_if_eq("--store").is_some() {
+        return store(args.next());
+    }
+    let seed = number(args.next(), 1) as u64;
+    let sections = number(args.next(), 20_000);
+    let mut run = Run { seed, rng: Rng::new(seed), counts: Counts::default() };
+
+    // short ones: none, one and two bytes of every value, and three that begin a stamp
+    run.section("short sections", &[]);
+    for a in 0..=255 {
+        run.section("short sections", &[a]);
+        run.section("short sections", &[b'J', b'N', a]);
+        run.section("stamps", &[b'J', b'N', b'T', a]);
+        run.section("stamps", &[b'P', b'A', a, b'0']);
+        run.section("stamps", &[a, b'R', b'T', b'0']);
+        for b in 0..=255 {
+            run.section("short sections", &[a, b]);
+        }
+    }
+    // each value of an object's flags, and of a pivot record's select and neg
+    for flags in 0..=0xffff {
+        let s = sections::with_flags(flags, &mut run.rng);
+        run.section("flags", &s);
+    }
+    for selneg in 0..=0xffff {
+        if selneg < 256 || selneg % 97 == 0 {
+            let s = sections::with_pivot(selneg, &mut run.rng);
+            run.section("pivot records", &s);
+        }
+    }
+    // small sections with every byte set to every value
+    for small in sections::small(&mut run.rng) {
+        for at in 0..small.len() {
+            for value in 0..=255 {
+                let mut s = small.clone();
+                s[at] = value;
+                run.section("single bytes", &s);
+            }
+        }
+    }
+    // sections from the seed, damaged or not
+    for _ in 0..sections {
+        let s = sections::any(&mut run.rng);
+        run.section("sections from the seed", &s);
+    }
+    // a hundred sections, cut at every byte
+    let mut cut = 0;
+    while cut < 100 {
+        let s = sections::any(&mut run.rng);
+        if s.len() > 40 && s.len() < 700 {
+            run.cuts(&s);
+            cut += 1;
+            if cut % 20 == 0 {
+                progress(&run.counts);
+            }
+        }
+    }
+    let c = &run.counts;
+    eprintln!();
+    println!(
+        "agreed: {} sections, {} entries ({} accepted), {} matrices, {} choices, {} curves, {} resampled lists, {} cuts",
+        c.sections, c.entries, c.accepted, c.matrices, c.choices, c.curves, c.resampled, c.cuts
+    );
+    let refused: Vec<_> = (1..14).filter(|&n| c.refused[n] > 0).map(|n| format!("{n}: {}", c.refused[n])).collect();
+    println!("sections and entries refused with each number: {}", refused.join(", "));
+}

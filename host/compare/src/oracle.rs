@@ -1,0 +1,82 @@
+//! What the Rust answers.
+use apicula::errors::Result;
+use apicula::nitro::animation::{read_animation, Animation};
+use apicula::nitro::container::read_container;
+use apicula::nitro::info_block;
+use apicula::nitro::material_animation::{read_mat_anim, MaterialAnimation};
+use apicula::nitro::pattern::{read_pattern, Pattern};
+use apicula::util::cur::Cur;
+
+pub enum Value {
+    Jnt(Animation),
+    Srt(MaterialAnimation),
+    Pat(Pattern),
+}
+
+pub struct Entry {
+    pub name: [u8; 16],
+    pub offset: usize,
+    /// The value, or the number that the Rust's message stands for.
+    pub value: std::result::Result<Value, u32>,
+}
+
+/// The number of a message.
+fn number(message: &str) -> u32 {
+    match message {
+        "ran out of data" => 2,
+        "expected: dummy == 0" => 3,
+        "expected: size_of_datum as usize == <T as Viewable>::size()" => 4,
+        "expected: stamp == b\"J\\0AC\"" => 5,
+        "ignoring animation with 0 frames" => 6,
+        "expected: start_frame < end_frame" => 7,
+        "OOB index in pattern animation" => 8,
+        other => panic!("the Rust says {other:?}, and no number is known for it"),
+    }
+}
+
+/// The section by itself, then each of its entries, as `add_jnt`, `add_srt` and `add_pat` read them.
+pub fn read(s: &[u8]) -> std::result::Result<Vec<Entry>, u32> {
+    let cur = Cur::new(s);
+    let stamp = cur.clone().next_n_u8s(4).map_err(|_| 2u32)?;
+    if ![&b"JNT0"[..], b"SRT0", b"PAT0"].contains(&stamp) {
+        return Err(1);
+    }
+    let block = || -> Result<_> {
+        let mut end = cur;
+        end.next_n_u8s(4)?;
+        end.next::<u32>()?;
+        Ok(info_block::read::<u32>(end)?)
+    };
+    let mut entries = Vec::new();
+    for (off, name) in block().map_err(|e| number(&e.to_string()))? {
+        let value = match stamp {
+            b"JNT0" => read_animation(cur + off, name).map(Value::Jnt),
+            b"SRT0" => read_mat_anim(cur + off, name).map(Value::Srt),
+            _ => read_pattern(cur + off, name).map(Value::Pat),
+        };
+        entries.push(Entry { name: name.0, offset: off as usize, value: value.map_err(|e| number(&e.to_string())) });
+    }
+    Ok(entries)
+}
+
+/// How many entries the Rust keeps of a section that stands in a container.
+pub fn kept(s: &[u8]) -> usize {
+    let mut file = b"BCA0\xff\xfe\0\0\xff\0\0\0\x10\0\x01\0\x14\0\0\0".to_vec();
+    file.extend(s);
+    let cont = read_container(Cur::new(&file)).unwrap();
+    cont.animations.len() + cont.mat_anims.len() + cont.patterns.len()
+}
+
+/// Whether an entry's header is whole and right, but for more than 99 objects: document 01's number 12, which the Rust does not have.
+pub fn too_many_objects(s: &[u8], offset: usize) -> bool {
+    let head = || -> Result<bool> {
+        let mut c = Cur::new(s) + offset;
+        let stamp = c.next_n_u8s(4)?;
+        let frames = c.next::<u16>()?;
+        let objects = c.next::<u16>()?;
+        c.next_n::<u32>(3)?;
+        c.next_n::<u16>(objects as usize)?;
+        Ok(stamp == b"J\0AC" && frames != 0 && objects > 99)
+    };
+    s.starts_with(b"JNT0") && head().unwrap_or(false)
+}

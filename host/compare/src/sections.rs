@@ -1,0 +1,455 @@
+//! Sections to compare on: laid out from their parts, then damaged.
+use crate::rng::Rng;
+
+fn put16(out: &mut Vec<u8>, x: usize) {
+    out.extend((x as u16).to_le_bytes());
+}
+
+fn put32(out: &mut Vec<u8>, x: usize) {
+    out.extend((x as u32).to_le_bytes());
+}
+
+/// An info block: its data, and as many names.
+fn info_block(out: &mut Vec<u8>, size: usize, data: &[Vec<u8>], names: &[[u8; 16]]) {
+    out.extend([0, data.len() as u8]);
+    out.extend([0; 10]);
+    out.extend(vec![0xee; 4 * data.len()]);
+    put16(out, size);
+    put16(out, 0);
+    data.iter().for_each(|d| out.extend(d));
+    names.iter().for_each(|n| out.extend(n));
+}
+
+fn name(rng: &mut Rng) -> [u8; 16] {
+    let mut name = [0; 16];
+    name[0] = b'a' + rng.below(4) as u8;
+    if rng.once_in(4) {
+        name[15] = rng.next() as u8;
+    }
+    name
+}
+
+/// A section of a stamp, with its entries one after the other, or some of them at one place.
+#[allow(clippy::needless_range_loop)]
+pub fn section(stamp: &[u8; 4], entries: &[Vec<u8>], rng: &mut Rng) -> Vec<u8> {
+    let head = 8 + 12 + 4 + 24 * entries.len();
+    let mut at = head;
+    let mut offsets = Vec::new();
+    for entry in entries {
+        offsets.push(at);
+        at += entry.len();
+    }
+    for i in 0..offsets.len() {
+        if rng.once_in(10) {
+            offsets[i] = rng.pick(&offsets.clone());
+        }
+        if rng.once_in(40) {
+            offsets[i] = rng.pick(&[0, 8, 4, head - 16, at, at + 1, 0xffff_ffff, 0xffff_fffc]);
+        }
+    }
+    let mut s = stamp.to_vec();
+    put32(&mut s, at);
+    let data: Vec<_> = offsets.iter().map(|&o| (o as u32).to_le_bytes().to_vec()).collect();
+    let names: Vec<_> = entries.iter().map(|_| name(rng)).collect();
+    info_block(&mut s, 4, &data, &names);
+    entries.iter().for_each(|e| s.extend(e));
+    s
+}
+
+// ---- JNT0
+
+/// The lists of an entry: each is put behind the last, or over one that is already there.
+struct Pool {
+    base: usize,
+    bytes: Vec<u8>,
+}
+
+impl Pool {
+    /// The offset of some bytes.
+    fn put(&mut self, bytes: &[u8], rng: &mut Rng) -> usize {
+        if rng.once_in(5) && self.bytes.len() >= bytes.len() {
+            return self.base + rng.below(self.bytes.len() - bytes.len() + 1);
+        }
+        let at = self.base + self.bytes.len();
+        self.bytes.extend(bytes);
+        at
+    }
+}
+
+fn curve_word(rng: &mut Rng, longest: usize) -> (usize, usize) {
+    let start = rng.below(6);
+    let end = if rng.once_in(60) { start } else { start + 1 + rng.below(longest) };
+    let (width, rate) = (rng.below(4), if rng.once_in(2) { 0 } else { rng.below(4) });
+    let count = (end.saturating_sub(start)) >> rate;
+    (start | end << 16 | width << 28 | rate << 30, count)
+}
+
+/// Bytes of numbers, with the extremes among them.
+fn numbers(rng: &mut Rng, n: usize) -> Vec<u8> {
+    match rng.below(4) {
+        0 => vec![rng.pick(&[0, 0x80, 0xff, 0x7f]); n],
+        _ => rng.bytes(n),
+    }
+}
+
+/// A JNT0 entry whose objects have these flags.
+pub fn animation(flags: &[u16], rng: &mut Rng) -> Vec<u8> {
+    let longest = if rng.once_in(30) { 300 } else { 12 };
+    let (pivots, bases) = (1 + rng.below(3), 1 + rng.below(3));
+    let fields = 20 + 2 * flags.len() + flags.len() * 72;
+    let mut pool = Pool { base: fields, bytes: Vec::new() };
+    let mut pivot = Vec::new();
+    for _ in 0..pivots {
+        put16(&mut pivot, rng.below(256));
+        pivot.extend(numbers(rng, 4));
+    }
+    let basis: Vec<u8> = (0..bases).flat_map(|_| numbers(rng, 10)).collect();
+    let (pivot_off, basis_off) = (pool.put(&pivot, rng), pool.put(&basis, rng));
+    let reference = |rng: &mut Rng| {
+        if rng.once_in(2) {
+            0x8000 | rng.below(pivots)
+        } else {
+            rng.below(bases)
+        }
+    };
+
+    let mut objects = Vec::new();
+    let mut offsets = Vec::new();
+    for &flag in flags {
+        offsets.push(20 + 2 * flags.len() + objects.len());
+        let mut o = Vec::new();
+        put16(&mut o, flag as usize);
+        o.extend([0, 0]);
+        let axes = |o: &mut Vec<u8>, rng: &mut Rng, pool: &mut Pool, first: usize, numbers_each: usize| {
+            for axis in 0..3 {
+                if flag >> (first + axis) & 1 == 1 {
+                    o.extend(numbers(rng, 4 * numbers_each));
+                } else {
+                    let (word, count) = curve_word(rng, longest);
+                    let width = if word >> 28 & 3 == 0 { 4 } else { 2 };
+                    put32(o, word);
+                    let list = numbers(rng, count * width * numbers_each);
+                    let off = pool.put(&list, rng);
+                    put32(o, off);
+                }
+            }
+        };
+        if flag & 1 == 0 {
+            if flag & 0b110 == 0 {
+                axes(&mut o, rng, &mut pool, 3, 1);
+            }
+            if flag & 0b1100_0000 == 0 {
+                if flag >> 8 & 1 == 1 {
+                    put16(&mut o, reference(rng));
+                    put16(&mut o, 0);
+                } else {
+                    let (word, count) = curve_word(rng, longest);
+                    let mut list = Vec::new();
+                    (0..count).for_each(|_| put16(&mut list, reference(rng)));
+                    put32(&mut o, word);
+                    // references stand alone: other bytes would lead far out
+                    let off = pool.base + pool.bytes.len();
+                    pool.bytes.extend(list);
+                    put32(&mut o, off);
+                }
+            }
+            if flag & 0b110_0000_0000 == 0 {
+                axes(&mut o, rng, &mut pool, 11, 2);
+            }
+        }
+        objects.extend(o);
+    }
+    objects.resize(flags.len() * 72, 0);
+
+    let mut e = b"J\0AC".to_vec();
+    put16(&mut e, if rng.once_in(50) { 0 } else { 1 + rng.below(60) });
+    put16(&mut e, flags.len());
+    put32(&mut e, 0);
+    put32(&mut e, pivot_off);
+    put32(&mut e, basis_off);
+    offsets.iter().for_each(|&o| put16(&mut e, o));
+    e.extend(objects);
+    e.extend(pool.bytes);
+    e
+}
+
+fn flags(rng: &mut Rng) -> u16 {
+    let mut f = rng.next() as u16 & 0x3fff;
+    // every pair leaves something out; most objects are animated
+    if !rng.once_in(8) {
+        f &= !1;
+    }
+    for pair in [0b110, 0b1100_0000, 0b110_0000_0000] {
+        if !rng.once_in(4) {
+            f &= !pair;
+        }
+    }
+    f
+}
+
+fn random_animation(rng: &mut Rng) -> Vec<u8> {
+    let n = match rng.below(200) {
+        0 => 99 + rng.below(3),
+        k => k % 4,
+    };
+    let f: Vec<_> = (0..n).map(|_| if n > 50 { 1 } else { flags(rng) }).collect();
+    animation(&f, rng)
+}
+
+/// A JNT0 section whose entry has a hundred objects, one more than is read, and none of them stands there.
+pub fn hundred() -> Vec<u8> {
+    let mut e = b"J\0AC\x01\0\x64\0".to_vec();
+    e.resize(20 + 2 * 100, 0);
+    section(b"JNT0", &[e], &mut Rng::new(1))
+}
+
+// ---- SRT0
+
+fn material(rng: &mut Rng) -> Vec<u8> {
+    let n = rng.below(4);
+    let head = 8 + 12 + 4 + n * (4 + 40 + 16);
+    let mut pool = Pool { base: head, bytes: rng.bytes(8) };
+    let mut data = Vec::new();
+    for _ in 0..n {
+        let mut d = Vec::new();
+        for _ in 0..5 {
+            let frames = if rng.once_in(6) { 0 } else { 1 + rng.below(12) };
+            let list = numbers(rng, 2 * frames);
+            put16(&mut d, frames);
+            d.push(0);
+            d.push(if rng.once_in(4) { rng.next() as u8 } else { 16 });
+            let off = pool.put(&list, rng);
+            put32(&mut d, if rng.once_in(40) { rng.next() as usize } else { off });
+        }
+        data.push(d);
+    }
+    let names: Vec<_> = (0..n).map(|_| name(rng)).collect();
+    let mut e = b"M\0AT".to_vec();
+    put16(&mut e, rng.below(30));
+    put16(&mut e, 0);
+    info_block(&mut e, 40, &data, &names);
+    e.extend(pool.bytes);
+    e
+}
+
+// ---- PAT0
+
+fn pattern(rng: &mut Rng) -> Vec<u8> {
+    let n = rng.below(4);
+    let (textures, palettes) = (rng.below(4), rng.below(4));
+    let head = 12 + 12 + 4 + n * (4 + 8 + 16);
+    let mut pool = Pool { base: head, bytes: Vec::new() };
+    let (texture_bytes, palette_bytes) = (rng.bytes(16 * textures), rng.bytes(16 * palettes));
+    let texture_off = pool.put(&texture_bytes, rng);
+    let palette_off = pool.put(&palette_bytes, rng);
+    let mut data = Vec::new();
+    for _ in 0..n {
+        let count = if rng.once_in(6) { 0 } else { 1 + rng.below(5) };
+        let mut keys = Vec::new();
+        for k in 0..count {
+            // most keys are in order
+            put16(&mut keys, if rng.once_in(4) { rng.below(20) } else { 4 * k });
+            for names in [textures, palettes] {
+                let beyond = rng.once_in(60) as usize;
+                keys.push(rng.below(names.max(1) + beyond) as u8);
+            }
+        }
+        // keys stand alone, so that their indexes are the ones meant
+        let off = pool.base + pool.bytes.len();
+        pool.bytes.extend(keys);
+        let mut d = Vec::new();
+        put32(&mut d, if rng.once_in(60) { rng.pick(&[0x4000_0001, 0xffff_ffff, count + 1]) } else { count });
+        put16(&mut d, 0);
+        put16(&mut d, if rng.once_in(60) { rng.next() as usize } else { off });
+        data.push(d);
+    }
+    let names: Vec<_> = (0..n).map(|_| name(rng)).collect();
+    let mut e = b"P\0AT".to_vec();
+    put16(&mut e, rng.below(30));
+    e.extend([textures as u8, palettes as u8]);
+    put16(&mut e, texture_off);
+    put16(&mut e, palette_off);
+    info_block(&mut e, 8, &data, &names);
+    e.extend(pool.bytes);
+    e
+}
+
+// ---- whole sections, and damage
+
+/// A section as it should be, of a kind that the numbers choose.
+pub fn whole(rng: &mut Rng) -> Vec<u8> {
+    let kind = rng.below(3);
+    let n = if rng.once_in(40) { 0 } else { 1 + rng.below(3) };
+    let entries: Vec<_> = (0..n)
+        .map(|_| match kind {
+            0 => random_animation(rng),
+            1 => material(rng),
+            _ => pattern(rng),
+        })
+        .collect();
+    section([b"JNT0", b"SRT0", b"PAT0"][kind], &entries, rng)
+}
+
+/// A section, damaged or not.
+pub fn any(rng: &mut Rng) -> Vec<u8> {
+    let mut s = whole(rng);
+    for _ in 0..rng.below(3) {
+        damage(&mut s, rng);
+    }
+    s
+}
+
+fn damage(s: &mut Vec<u8>, rng: &mut Rng) {
+    if s.is_empty() {
+        return;
+    }
+    let at = rng.below(s.len());
+    match rng.below(6) {
+        0 => s[at] = rng.next() as u8,
+        1 => s[at] ^= 1 << rng.below(8),
+        2 => s[at] = rng.pick(&[0, 1, 0x7f, 0x80, 0xff]),
+        3 => s.truncate(at),
+        4 => {
+            // an extreme in the place of a word
+            let extreme = rng.pick(&[0, 0xffff_ffffu32, 0x8000_0000, 0x7fff_ffff, 0xffff_fffc, 0x0001_0000]);
+            for (b, x) in s[at..].iter_mut().zip(extreme.to_le_bytes()) {
+                *b = x;
+            }
+        }
+        _ => {
+            let n = rng.below(8);
+            s.extend(rng.bytes(n));
+        }
+    }
+}
+
+/// One object with every value of its flags in turn.
+pub fn with_flags(flag: u16, rng: &mut Rng) -> Vec<u8> {
+    let entry = animation(&[flag], rng);
+    section(b"JNT0", &[entry], rng)
+}
+
+/// One constant rotation by a pivot record, with every select and neg in turn.
+pub fn with_pivot(selneg: usize, rng: &mut Rng) -> Vec<u8> {
+    let mut e = b"J\0AC".to_vec();
+    put16(&mut e, 1);
+    put16(&mut e, 1);
+    [0, 32, 38].iter().for_each(|&x| put32(&mut e, x));
+    put16(&mut e, 24);
+    e.extend([0, 0]);
+    put16(&mut e, 0b110_0001_0000_0110);
+    e.extend([0, 0]);
+    put16(&mut e, 0x8000);
+    put16(&mut e, 0);
+    put16(&mut e, selneg);
+    e.extend(numbers(rng, 4));
+    section(b"JNT0", &[e], rng)
+}
+
+/// Small sections, one of each stamp and more, whose every byte is tried with every value.
+pub fn small(rng: &mut Rng) -> Vec<Vec<u8>> {
+    let mut found = Vec::new();
+    for stamp in [b"JNT0", b"SRT0", b"PAT0"] {
+        let mut kept = 0;
+        while kept < 2 {
+            let s = whole(rng);
+            if s.starts_with(stamp) && s.len() < 260 && s.len() > 90 {
+                found.push(s);
+                kept += 1;
+            }
+        }
+    }
+    found.push(motion::example::WALK.to_vec());
+    found
+}
+
+// ---- sections of a stated size, for the benchmark
+
+/// A JNT0 section with one entry: so many objects, each with lists of so many frames on every axis and for its rotation.
+pub fn walk_cycle(objects: usize, frames: usize) -> Vec<u8> {
+    let rng = &mut Rng::new(7);
+    let fields = 20 + 2 * objects + 60 * objects;
+    let lists = fields + 10 * 16 + 6 * 16;
+    let mut e = b"J\0AC".to_vec();
+    put16(&mut e, frames);
+    put16(&mut e, objects);
+    put32(&mut e, 0);
+    put32(&mut e, fields + 10 * 16);
+    put32(&mut e, fields);
+    (0..objects).for_each(|o| put16(&mut e, 20 + 2 * objects + 60 * o));
+    let list = 8 * frames;
+    for o in 0..objects {
+        e.extend([0; 4]);
+        for curve in 0..7 {
+            // width 1, two bytes a number
+            put32(&mut e, frames << 16 | 1 << 28);
+            put32(&mut e, lists + (7 * o + curve) * list);
+        }
+    }
+    e.extend(rng.bytes(10 * 16));
+    for k in 0..16 {
+        put16(&mut e, k % 9);
+        e.extend(rng.bytes(4));
+    }
+    for _ in 0..objects {
+        for curve in 0..7 {
+            let at = e.len();
+            if curve == 3 {
+                (0..frames).for_each(|k| put16(&mut e, (k % 2) << 15 | k % 16));
+            } else {
+                e.extend(rng.bytes(4 * frames));
+            }
+            e.resize(at + list, 0);
+        }
+    }
+    section(b"JNT0", &[e], &mut Rng::new(1))
+}
+
+/// An SRT0 section with one entry: so many tracks, each with lists of so many frames for u and v.
+pub fn scroll(tracks: usize, frames: usize) -> Vec<u8> {
+    let rng = &mut Rng::new(7);
+    let head = 8 + 12 + 4 + tracks * (4 + 40 + 16);
+    let mut data = Vec::new();
+    for t in 0..tracks {
+        let mut d = vec![0; 24];
+        for channel in 0..2 {
+            put16(&mut d, frames);
+            d.extend([0, 16]);
+            put32(&mut d, head + (2 * t + channel) * 2 * frames);
+        }
+        data.push(d);
+    }
+    let mut e = vec![0; 4];
+    put16(&mut e, frames);
+    put16(&mut e, 0);
+    info_block(&mut e, 40, &data, &vec![[b's'; 16]; tracks]);
+    e.extend(rng.bytes(tracks * 4 * frames));
+    section(b"SRT0", &[e], &mut Rng::new(1))
+}
+
+/// A PAT0 section with one entry: so many tracks, each with so many keys, and four names in each list.
+pub fn blink(tracks: usize, keys: usize) -> Vec<u8> {
+    let head = 12 + 12 + 4 + tracks * (4 + 8 + 16);
+    let mut data = Vec::new();
+    for t in 0..tracks {
+        let mut d = Vec::new();
+        put32(&mut d, keys);
+        put16(&mut d, 0);
+        put16(&mut d, head + 128 + t * 4 * keys);
+        data.push(d);
+    }
+    let mut e = vec![0; 4];
+    put16(&mut e, keys);
+    e.extend([4, 4]);
+    put16(&mut e, head);
+    put16(&mut e, head + 64);
+    info_block(&mut e, 8, &data, &vec![[b'b'; 16]; tracks]);
+    e.extend([b'n'; 128]);
+    for _ in 0..tracks {
+        for k in 0..keys {
+            put16(&mut e, k);
+            e.extend([(k % 4) as u8, (k % 3) as u8]);
+        }
+    }
+    section(b"PAT0", &[e], &mut Rng::new(1))
+}

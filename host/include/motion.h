@@ -1,0 +1,90 @@
+/* Motion sections of two-screen handheld games: JNT0, SRT0, PAT0.
+ *
+ * Link with libmotion.a (motion_check, motion_matrix) and libexports.a (the rest), which `rt staticlib motion` and
+ * `rt staticlib exports` write to target/staticlib.
+ *
+ * Every call takes a section of `length` bytes, of any length and with any contents, and ends. It answers 0, or the number of its
+ * refusal:
+ *
+ *    1  the first four bytes are no stamp that the call takes
+ *    2  too short: a part ends past the section
+ *    3  an info block's first byte is not 0
+ *    4  an info block states a wrong size for its data
+ *    5  the animation's stamp is wrong
+ *    6  an animation of 0 frames
+ *    7  a curve's start is not below its end
+ *    8  a key's texture or palette is not below its count
+ *    9  an index past its list
+ *   10  nothing to sample: an empty list, or a track without keys
+ *   11  the lent slice is too small
+ *   12  more than 99 objects
+ *
+ * What is lent keeps its contents where the call refuses. No pointer may be null, not even for 0 bytes, and what a call writes into may
+ * not overlap the section. Indexes count from 0.
+ */
+#ifndef MOTION_H
+#define MOTION_H
+
+#include <stddef.h>
+#include <stdint.h>
+
+#ifdef __cplusplus
+extern "C" {
+#endif
+
+/* ---- libmotion.a */
+
+/* Whether entry `entry` is whole: 0, or the number. */
+uint32_t motion_check(const uint8_t *section, size_t length, size_t entry);
+
+/* The matrix of object `object` of a JNT0 entry at frame `frame`, into the first 128 of the `out_length` bytes at `out`: sixteen doubles,
+ * column by column, eight little-endian bytes each. The other bytes keep their contents. Fewer than 128 bytes are refused with 11, after
+ * everything else. */
+uint32_t motion_matrix(const uint8_t *section, size_t length, size_t entry, size_t object, uint16_t frame, uint8_t *out, size_t out_length);
+
+/* ---- libexports.a */
+
+/* The record of an entry: the first and the last eight bytes of its name as little-endian words, its reach, its frames, and how many
+ * objects or tracks it has. */
+uint32_t motion_record(const uint8_t *section, size_t length, size_t entry, uint64_t out[5]);
+
+/* An entry whose sixteen bytes of name are these: 1 and its index, or 0 if there is none. */
+uint32_t motion_find(const uint8_t *section, size_t length, const uint8_t name[16], uint64_t out[2]);
+
+/* A curve of an object or track. out[0] is 0 for none; 1 for a constant, whose value goes to `value`; 2 for a list, with its start, end,
+ * place in the section, length and bytes per value in out[1] to out[5]. Axes are 0, 1, 2, channels 0 to 4. A rotation has nine doubles,
+ * column by column. */
+uint32_t motion_translation_curve(const uint8_t *section, size_t length, size_t entry, size_t object, size_t axis, uint64_t out[6], double value[1]);
+uint32_t motion_rotation_curve(const uint8_t *section, size_t length, size_t entry, size_t object, uint64_t out[6], double value[9]);
+uint32_t motion_scale_curve(const uint8_t *section, size_t length, size_t entry, size_t object, size_t axis, uint64_t out[6], double value[1]);
+uint32_t motion_channel_curve(const uint8_t *section, size_t length, size_t entry, size_t track, size_t channel, uint64_t out[6], double value[1]);
+
+/* The matrix of an SRT0 track at a frame: sixteen doubles, column by column. */
+uint32_t motion_uv_matrix(const uint8_t *section, size_t length, size_t entry, size_t track, uint16_t frame, double out[16]);
+
+/* The name of a track, as two little-endian words. */
+uint32_t motion_material_name(const uint8_t *section, size_t length, size_t entry, size_t track, uint64_t out[2]);
+uint32_t motion_pattern_name(const uint8_t *section, size_t length, size_t entry, size_t track, uint64_t out[2]);
+
+/* The place and the length of a PAT0 entry's texture names and palette names (sixteen bytes each), and of a track's keys (four each). */
+uint32_t motion_texture_names(const uint8_t *section, size_t length, size_t entry, uint64_t out[2]);
+uint32_t motion_palette_names(const uint8_t *section, size_t length, size_t entry, uint64_t out[2]);
+uint32_t motion_keys(const uint8_t *section, size_t length, size_t entry, size_t track, uint64_t out[2]);
+
+/* The texture and the palette of a PAT0 track at a frame, as indexes of the entry's names. */
+uint32_t motion_choice(const uint8_t *section, size_t length, size_t entry, size_t track, uint16_t frame, uint64_t out[2]);
+
+/* An object's translation or scale at the common frames of its three curves: x, y, z for each frame, into the `count` doubles at `floats`
+ * from element `place` on. out[0] is 1, with the first frame, the one after the last, and how many frames were written; or 0 for three
+ * missing curves. */
+uint32_t motion_resample_translation(const uint8_t *section, size_t length, size_t entry, size_t object, double *floats, size_t count, size_t place, uint64_t out[4]);
+uint32_t motion_resample_scale(const uint8_t *section, size_t length, size_t entry, size_t object, double *floats, size_t count, size_t place, uint64_t out[4]);
+
+/* The listing of a section, as the program motion-list prints it: answers how many bytes of `out` it has. */
+size_t motion_list(const uint8_t *section, size_t length, uint8_t out[45000]);
+
+#ifdef __cplusplus
+}
+#endif
+
+#endif

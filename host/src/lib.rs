@@ -1,0 +1,472 @@
+//! Motion sections of two-screen handheld games: JNT0 (joints), SRT0 (texture coordinates) and PAT0 (textures and palettes).
+//!
+//! Every call takes the whole section as a byte slice, answers every input, and relies on no earlier call. An entry is whole or it is
+//! refused by number; its neighbours stand. The work is done by proved code, linked as a static library; this crate only lends it
+//! slices and takes its answers apart.
+//!
+//! ```
+//! let walk = motion::example::WALK;
+//! let record = motion::check(walk, 0).unwrap();
+//! assert_eq!((record.reach, record.frames, record.count), (86, 12, 1));
+//! assert_eq!(motion::check(&walk[..85], 0), Err(motion::Refusal(2)));
+//! ```
+
+use std::fmt;
+
+/// What a call answers: a value, or the number of its refusal.
+pub type Result<T> = std::result::Result<T, Refusal>;
+
+/// The number of a refusal, 1 to 13.
+#[derive(Clone, Copy, Debug, PartialEq, Eq)]
+pub struct Refusal(pub u32);
+
+impl Refusal {
+    /// The number in words.
+    ///
+    /// ```
+    /// assert_eq!(motion::Refusal(2).meaning(), "the section ends before a part that is read");
+    /// ```
+    pub fn meaning(self) -> &'static str {
+        match self.0 {
+            1 => "the first four bytes are no stamp that this call takes",
+            2 => "the section ends before a part that is read",
+            3 => "an info block does not begin with a zero byte",
+            4 => "an info block states another size for its data",
+            5 => "the entry has no animation stamp",
+            6 => "the animation has no frames",
+            7 => "a curve's start is not before its end",
+            8 => "a key's texture or palette is not in its list",
+            9 => "the index is past its list",
+            10 => "there is nothing to sample: an empty list, or a track without keys",
+            11 => "the slice is too small",
+            12 => "the animation has more than 99 objects",
+            13 => "the input has more than 65,536 bytes",
+            _ => "no refusal has this number",
+        }
+    }
+}
+
+impl fmt::Display for Refusal {
+    fn fmt(&self, f: &mut fmt::Formatter) -> fmt::Result {
+        write!(f, "refused, {}: {}", self.0, self.meaning())
+    }
+}
+
+impl std::error::Error for Refusal {}
+
+/// The record of an entry.
+#[derive(Clone, Copy, Debug, PartialEq, Eq)]
+pub struct Record {
+    /// All sixteen bytes.
+    pub name: [u8; 16],
+    /// Where the last part that the entry needs ends: from here on the section may be cut.
+    pub reach: usize,
+    pub frames: u16,
+    /// How many objects (JNT0) or tracks (SRT0, PAT0) the entry has.
+    pub count: usize,
+}
+
+/// A curve's list: its frames, its place in the section, how many values it has, and the bytes of each.
+#[derive(Clone, Copy, Debug, PartialEq, Eq)]
+pub struct List {
+    pub start: u16,
+    pub end: u16,
+    pub place: usize,
+    pub length: usize,
+    pub size: usize,
+}
+
+/// The record of a curve.
+#[derive(Clone, Copy, Debug, PartialEq)]
+pub enum Curve<T> {
+    None,
+    Constant(T),
+    List(List),
+}
+
+/// Where a list stands in the section, and how many items it has.
+#[derive(Clone, Copy, Debug, PartialEq, Eq)]
+pub struct Place {
+    pub place: usize,
+    pub length: usize,
+}
+
+/// A texture's index among the entry's texture names, and a palette's among its palette names.
+#[derive(Clone, Copy, Debug, PartialEq, Eq)]
+pub struct Choice {
+    pub texture: u8,
+    pub palette: u8,
+}
+
+/// What was resampled: the first frame and the one after the last (none for three missing curves), and how many frames were written.
+#[derive(Clone, Copy, Debug, PartialEq, Eq)]
+pub struct Resampled {
+    pub span: Option<(u16, u16)>,
+    pub frames: usize,
+}
+
+/// Four columns of four floats.
+pub type Matrix = [[f64; 4]; 4];
+
+/// Three columns of three floats.
+pub type Rotation = [[f64; 3]; 3];
+
+mod calls {
+    extern "C" {
+        pub fn motion_check(s: *const u8, len: usize, entry: usize) -> u32;
+        pub fn motion_matrix(s: *const u8, len: usize, entry: usize, object: usize, frame: u16, out: *mut u8, out_len: usize) -> u32;
+        pub fn motion_record(s: *const u8, len: usize, entry: usize, out: *mut [u64; 5]) -> u32;
+        pub fn motion_find(s: *const u8, len: usize, name: *const [u8; 16], out: *mut [u64; 2]) -> u32;
+        pub fn motion_translation_curve(
+            s: *const u8,
+            len: usize,
+            entry: usize,
+            object: usize,
+            axis: usize,
+            out: *mut [u64; 6],
+            value: *mut [f64; 1],
+        ) -> u32;
+        pub fn motion_rotation_curve(
+            s: *const u8,
+            len: usize,
+            entry: usize,
+            object: usize,
+            out: *mut [u64; 6],
+            value: *mut [f64; 9],
+        ) -> u32;
+        pub fn motion_scale_curve(
+            s: *const u8,
+            len: usize,
+            entry: usize,
+            object: usize,
+            axis: usize,
+            out: *mut [u64; 6],
+            value: *mut [f64; 1],
+        ) -> u32;
+        pub fn motion_channel_curve(
+            s: *const u8,
+            len: usize,
+            entry: usize,
+            track: usize,
+            channel: usize,
+            out: *mut [u64; 6],
+            value: *mut [f64; 1],
+        ) -> u32;
+        pub fn motion_uv_matrix(s: *const u8, len: usize, entry: usize, track: usize, frame: u16, out: *mut [f64; 16]) -> u32;
+        pub fn motion_material_name(s: *const u8, len: usize, entry: usize, track: usize, out: *mut [u64; 2]) -> u32;
+        pub fn motion_pattern_name(s: *const u8, len: usize, entry: usize, track: usize, out: *mut [u64; 2]) -> u32;
+        pub fn motion_texture_names(s: *const u8, len: usize, entry: usize, out: *mut [u64; 2]) -> u32;
+        pub fn motion_palette_names(s: *const u8, len: usize, entry: usize, out: *mut [u64; 2]) -> u32;
+        pub fn motion_keys(s: *const u8, len: usize, entry: usize, track: usize, out: *mut [u64; 2]) -> u32;
+        pub fn motion_choice(s: *const u8, len: usize, entry: usize, track: usize, frame: u16, out: *mut [u64; 2]) -> u32;
+        pub fn motion_resample_translation(
+            s: *const u8,
+            len: usize,
+            entry: usize,
+            object: usize,
+            floats: *mut f64,
+            floats_len: usize,
+            place: usize,
+            out: *mut [u64; 4],
+        ) -> u32;
+        pub fn motion_resample_scale(
+            s: *const u8,
+            len: usize,
+            entry: usize,
+            object: usize,
+            floats: *mut f64,
+            floats_len: usize,
+            place: usize,
+            out: *mut [u64; 4],
+        ) -> u32;
+        pub fn motion_list(s: *const u8, len: usize, out: *mut [u8; super::LISTING]) -> usize;
+    }
+}
+
+/// The most bytes that a listing has.
+const LISTING: usize = 45_000;
+
+fn answer<T>(number: u32, value: T) -> Result<T> {
+    if number == 0 {
+        Ok(value)
+    } else {
+        Err(Refusal(number))
+    }
+}
+
+fn name_of(lo: u64, hi: u64) -> [u8; 16] {
+    let mut name = [0; 16];
+    name[..8].copy_from_slice(&lo.to_le_bytes());
+    name[8..].copy_from_slice(&hi.to_le_bytes());
+    name
+}
+
+fn curve_of<T>(words: [u64; 6], value: T) -> Curve<T> {
+    match words[0] {
+        0 => Curve::None,
+        1 => Curve::Constant(value),
+        _ => Curve::List(List {
+            start: words[1] as u16,
+            end: words[2] as u16,
+            place: words[3] as usize,
+            length: words[4] as usize,
+            size: words[5] as usize,
+        }),
+    }
+}
+
+// ---- any section
+
+/// Whether an entry is whole, as the number alone: 0 if it is.
+///
+/// ```
+/// assert_eq!(motion::number(motion::example::WALK, 0), 0);
+/// assert_eq!(motion::number(motion::example::WALK, 1), 9);
+/// ```
+pub fn number(section: &[u8], entry: usize) -> u32 {
+    unsafe { calls::motion_check(section.as_ptr(), section.len(), entry) }
+}
+
+/// The record of an entry that is whole.
+///
+/// ```
+/// let record = motion::check(motion::example::WALK, 0).unwrap();
+/// assert_eq!(&record.name[..4], b"walk");
+/// ```
+pub fn check(section: &[u8], entry: usize) -> Result<Record> {
+    let mut out = [0; 5];
+    let n = unsafe { calls::motion_record(section.as_ptr(), section.len(), entry, &mut out) };
+    answer(n, Record { name: name_of(out[0], out[1]), reach: out[2] as usize, frames: out[3] as u16, count: out[4] as usize })
+}
+
+/// The index of an entry with this name, whole or not; none exactly if there is none.
+///
+/// ```
+/// assert_eq!(motion::find(motion::example::WALK, b"walk\0\0\0\0\0\0\0\0\0\0\0\0"), Ok(Some(0)));
+/// assert_eq!(motion::find(motion::example::WALK, b"run\0\0\0\0\0\0\0\0\0\0\0\0\0"), Ok(None));
+/// ```
+pub fn find(section: &[u8], name: &[u8; 16]) -> Result<Option<usize>> {
+    let mut out = [0; 2];
+    let n = unsafe { calls::motion_find(section.as_ptr(), section.len(), name, &mut out) };
+    answer(n, (out[0] == 1).then_some(out[1] as usize))
+}
+
+/// The listing of a section, as the program motion-list prints it.
+///
+/// ```
+/// assert!(motion::list(motion::example::WALK).starts_with("section=JNT0\nentries=1\nentry=0\n"));
+/// assert_eq!(motion::list(b"TEX0"), "answer=1\n");
+/// ```
+pub fn list(section: &[u8]) -> String {
+    let mut out = [0; LISTING];
+    let end = unsafe { calls::motion_list(section.as_ptr(), section.len(), &mut out) };
+    String::from_utf8_lossy(&out[..end]).into_owned()
+}
+
+// ---- JNT0
+
+/// The matrix of an object at a frame.
+///
+/// ```
+/// let m = motion::matrix(motion::example::WALK, 0, 0, 5).unwrap();
+/// assert_eq!(m[3], [1.0, -1.0, 0.5, 1.0]);
+/// assert_eq!(motion::matrix(motion::example::WALK, 0, 1, 5), Err(motion::Refusal(9)));
+/// ```
+pub fn matrix(section: &[u8], entry: usize, object: usize, frame: u16) -> Result<Matrix> {
+    let mut out = [0; 128];
+    matrix_bytes(section, entry, object, frame, &mut out)?;
+    let mut m = [[0.0; 4]; 4];
+    for (float, bytes) in m.iter_mut().flatten().zip(out.chunks_exact(8)) {
+        *float = f64::from_le_bytes(bytes.try_into().unwrap());
+    }
+    Ok(m)
+}
+
+/// The same matrix as bytes, into the first 128 of `out`: sixteen floats of eight little-endian bytes, column by column. The rest of
+/// `out` keeps its contents, and so does all of it where the call refuses.
+///
+/// ```
+/// let mut out = [7; 130];
+/// motion::matrix_bytes(motion::example::WALK, 0, 0, 5, &mut out).unwrap();
+/// assert_eq!(out[96..104], 1.0f64.to_le_bytes());
+/// assert_eq!(out[128..], [7, 7]);
+/// assert_eq!(motion::matrix_bytes(motion::example::WALK, 0, 0, 5, &mut out[..127]), Err(motion::Refusal(11)));
+/// ```
+pub fn matrix_bytes(section: &[u8], entry: usize, object: usize, frame: u16, out: &mut [u8]) -> Result<()> {
+    let n = unsafe { calls::motion_matrix(section.as_ptr(), section.len(), entry, object, frame, out.as_mut_ptr(), out.len()) };
+    answer(n, ())
+}
+
+/// An object's translation curve on axis 0, 1 or 2.
+///
+/// ```
+/// assert_eq!(motion::translation_curve(motion::example::WALK, 0, 0, 2), Ok(motion::Curve::Constant(0.5)));
+/// ```
+pub fn translation_curve(section: &[u8], entry: usize, object: usize, axis: usize) -> Result<Curve<f64>> {
+    let (mut out, mut value) = ([0; 6], [0.0]);
+    let n = unsafe { calls::motion_translation_curve(section.as_ptr(), section.len(), entry, object, axis, &mut out, &mut value) };
+    answer(n, curve_of(out, value[0]))
+}
+
+/// An object's rotation curve.
+///
+/// ```
+/// assert_eq!(motion::rotation_curve(motion::example::WALK, 0, 0), Ok(motion::Curve::None));
+/// ```
+pub fn rotation_curve(section: &[u8], entry: usize, object: usize) -> Result<Curve<Rotation>> {
+    let (mut out, mut value) = ([0; 6], [0.0; 9]);
+    let n = unsafe { calls::motion_rotation_curve(section.as_ptr(), section.len(), entry, object, &mut out, &mut value) };
+    let v = value;
+    answer(n, curve_of(out, [[v[0], v[1], v[2]], [v[3], v[4], v[5]], [v[6], v[7], v[8]]]))
+}
+
+/// An object's scale curve on axis 0, 1 or 2.
+///
+/// ```
+/// assert_eq!(motion::scale_curve(motion::example::WALK, 0, 0, 3), Err(motion::Refusal(9)));
+/// ```
+pub fn scale_curve(section: &[u8], entry: usize, object: usize, axis: usize) -> Result<Curve<f64>> {
+    let (mut out, mut value) = ([0; 6], [0.0]);
+    let n = unsafe { calls::motion_scale_curve(section.as_ptr(), section.len(), entry, object, axis, &mut out, &mut value) };
+    answer(n, curve_of(out, value[0]))
+}
+
+/// An object's translation at the common frames of its three curves, x, y, z for each, into `out` from element `place` on.
+///
+/// ```
+/// let mut out = [9.0; 5];
+/// let r = motion::resample_translation(motion::example::WALK, 0, 0, &mut out, 1).unwrap();
+/// assert_eq!((r.span, r.frames), (Some((0, 1)), 1));
+/// assert_eq!(out, [9.0, 1.0, -1.0, 0.5, 9.0]);
+/// ```
+pub fn resample_translation(section: &[u8], entry: usize, object: usize, out: &mut [f64], place: usize) -> Result<Resampled> {
+    let mut words = [0; 4];
+    let n = unsafe {
+        calls::motion_resample_translation(section.as_ptr(), section.len(), entry, object, out.as_mut_ptr(), out.len(), place, &mut words)
+    };
+    answer(n, resampled_of(words))
+}
+
+/// An object's scale likewise.
+///
+/// ```
+/// let r = motion::resample_scale(motion::example::WALK, 0, 0, &mut [], 0).unwrap();
+/// assert_eq!((r.span, r.frames), (None, 0));
+/// ```
+pub fn resample_scale(section: &[u8], entry: usize, object: usize, out: &mut [f64], place: usize) -> Result<Resampled> {
+    let mut words = [0; 4];
+    let n = unsafe {
+        calls::motion_resample_scale(section.as_ptr(), section.len(), entry, object, out.as_mut_ptr(), out.len(), place, &mut words)
+    };
+    answer(n, resampled_of(words))
+}
+
+fn resampled_of(words: [u64; 4]) -> Resampled {
+    Resampled { span: (words[0] == 1).then_some((words[1] as u16, words[2] as u16)), frames: words[3] as usize }
+}
+
+// ---- SRT0
+
+/// The matrix of a track at a frame: the identity, with u and v in the fourth column.
+///
+/// ```
+/// assert_eq!(motion::uv_matrix(motion::example::WALK, 0, 0, 5), Err(motion::Refusal(1)));
+/// ```
+pub fn uv_matrix(section: &[u8], entry: usize, track: usize, frame: u16) -> Result<Matrix> {
+    let mut out = [0.0; 16];
+    let n = unsafe { calls::motion_uv_matrix(section.as_ptr(), section.len(), entry, track, frame, &mut out) };
+    let mut m = [[0.0; 4]; 4];
+    for (float, value) in m.iter_mut().flatten().zip(out) {
+        *float = value;
+    }
+    answer(n, m)
+}
+
+/// The curve of a track's channel, 0 to 4.
+///
+/// ```
+/// assert_eq!(motion::channel_curve(b"SRT", 0, 0, 3), Err(motion::Refusal(2)));
+/// ```
+pub fn channel_curve(section: &[u8], entry: usize, track: usize, channel: usize) -> Result<Curve<f64>> {
+    let (mut out, mut value) = ([0; 6], [0.0]);
+    let n = unsafe { calls::motion_channel_curve(section.as_ptr(), section.len(), entry, track, channel, &mut out, &mut value) };
+    answer(n, curve_of(out, value[0]))
+}
+
+/// The name of a track of an SRT0 entry.
+///
+/// ```
+/// assert_eq!(motion::material_name(b"SRT0", 0, 0), Err(motion::Refusal(2)));
+/// ```
+pub fn material_name(section: &[u8], entry: usize, track: usize) -> Result<[u8; 16]> {
+    let mut out = [0; 2];
+    let n = unsafe { calls::motion_material_name(section.as_ptr(), section.len(), entry, track, &mut out) };
+    answer(n, name_of(out[0], out[1]))
+}
+
+// ---- PAT0
+
+/// The texture and the palette of a track at a frame.
+///
+/// ```
+/// assert_eq!(motion::choice(motion::example::WALK, 0, 0, 5), Err(motion::Refusal(1)));
+/// ```
+pub fn choice(section: &[u8], entry: usize, track: usize, frame: u16) -> Result<Choice> {
+    let mut out = [0; 2];
+    let n = unsafe { calls::motion_choice(section.as_ptr(), section.len(), entry, track, frame, &mut out) };
+    answer(n, Choice { texture: out[0] as u8, palette: out[1] as u8 })
+}
+
+fn place_of(n: u32, out: [u64; 2]) -> Result<Place> {
+    answer(n, Place { place: out[0] as usize, length: out[1] as usize })
+}
+
+/// Where an entry's texture names stand, sixteen bytes each.
+///
+/// ```
+/// assert_eq!(motion::texture_names(b"PAT0", 0), Err(motion::Refusal(2)));
+/// ```
+pub fn texture_names(section: &[u8], entry: usize) -> Result<Place> {
+    let mut out = [0; 2];
+    let n = unsafe { calls::motion_texture_names(section.as_ptr(), section.len(), entry, &mut out) };
+    place_of(n, out)
+}
+
+/// Where an entry's palette names stand, sixteen bytes each.
+///
+/// ```
+/// assert_eq!(motion::palette_names(b"PAT0", 0), Err(motion::Refusal(2)));
+/// ```
+pub fn palette_names(section: &[u8], entry: usize) -> Result<Place> {
+    let mut out = [0; 2];
+    let n = unsafe { calls::motion_palette_names(section.as_ptr(), section.len(), entry, &mut out) };
+    place_of(n, out)
+}
+
+/// Where a track's keys stand, four bytes each.
+///
+/// ```
+/// assert_eq!(motion::keys(b"PAT0", 0, 0), Err(motion::Refusal(2)));
+/// ```
+pub fn keys(section: &[u8], entry: usize, track: usize) -> Result<Place> {
+    let mut out = [0; 2];
+    let n = unsafe { calls::motion_keys(section.as_ptr(), section.len(), entry, track, &mut out) };
+    place_of(n, out)
+}
+
+/// The name of a track of a PAT0 entry.
+///
+/// ```
+/// assert_eq!(motion::pattern_name(b"PAT0", 0, 0), Err(motion::Refusal(2)));
+/// ```
+pub fn pattern_name(section: &[u8], entry: usize, track: usize) -> Result<[u8; 16]> {
+    let mut out = [0; 2];
+    let n = unsafe { calls::motion_pattern_name(section.as_ptr(), section.len(), entry, track, &mut out) };
+    answer(n, name_of(out[0], out[1]))
+}
+
+/// A section to try the calls on.
+pub mod example {
+    /// A JNT0 section with the entry `walk`: twelve frames, and one object, whose translation is 1, -1, 0.5.
+    pub const WALK: &[u8] = b"JNT0\x56\0\0\0\0\x01\0\0\0\0\0\0\0\0\0\0\0\0\0\0\x04\0\0\0\x30\0\0\0walk\0\0\0\0\0\0\0\0\0\0\0\0J\0AC\x0c\0\x01\0\0\0\0\0\0\0\0\0\0\0\0\0\x16\0\x78\x02\0\0\0\x10\0\0\0\xf0\xff\xff\0\x08\0\0";
+}
