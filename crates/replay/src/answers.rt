@@ -325,7 +325,9 @@ fn lent(
     resampled(s, code, entry, index, &mut floats[..used], place, words)
 }
 
-// The call that 24 bytes stand for, on a section: how many words it answers.
+// The call that 24 bytes stand for, on a section: how many words it answers. The codes are 0 record, 1 finding, 2 translation curve,
+// 3 rotation curve, 4 scale curve, 5 channel, 6 matrix of a track, 7 name of an SRT0 track, 8 name of a PAT0 track, 9 texture names,
+// 10 palette names, 11 keys, 12 choice, 13 translation resampled, 14 scale resampled, 15 matrix of an object, 16 check.
 pub fn answer(s: &[u8], call: &[u8], words: &mut [u64; 136]) -> usize
     requires { ⌜ length (now call) ≡ 24 ⌝ }
     ensures { λ r. ⌜ r ≤ 136 ⌝ }
