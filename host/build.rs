@@ -1,8 +1,8 @@
 //! Links the static libraries that `rt staticlib motion` and `rt staticlib exports` write.
-use std::path::Path;
+use std::{env, path::Path};
 
 fn main() {
-    let libraries = Path::new(env!("CARGO_MANIFEST_DIR")).join("../target/staticlib");
+    let libraries = Path::new(&env::var("CARGO_MANIFEST_DIR").unwrap()).join("../target/staticlib");
     for name in ["motion", "exports"] {
         let file = libraries.join(format!("lib{name}.a"));
         println!("cargo:rerun-if-changed={}", file.display());

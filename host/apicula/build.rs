@@ -4,7 +4,7 @@ use std::{env, fs, path::Path};
 
 fn main() {
     println!("cargo:rerun-if-env-changed=APICULA_SRC");
-    let beside = Path::new(env!("CARGO_MANIFEST_DIR")).join("../../../shared/docs/src");
+    let beside = Path::new(&env::var("CARGO_MANIFEST_DIR").unwrap()).join("../../../shared/docs/src");
     let checkout = env::var("APICULA_SRC").map(Into::into).unwrap_or(beside);
     let module = |name: &str| {
         let plain = checkout.join(format!("src/{name}.rs"));

@@ -115,7 +115,7 @@ fn is_empty(c: ScalarCurve) -> bool
 }
 
 // Whether a list without values is among the three curves.
-pub fn any_empty(a: AxisCurves) -> bool
+fn any_empty(a: AxisCurves) -> bool
     ensures { λ r. ⌜ ((s : List ℕ) → r ≡ anyEmpty (axisCurves s a)) ⌝ }
 {
     let x = a.x;
@@ -137,7 +137,7 @@ fn domain(s: &[u8], c: ScalarCurve) -> CurveDomain
 }
 
 // The union of the domains of three curves, none of them an empty list.
-pub fn axes_domain(s: &[u8], a: AxisCurves) -> CurveDomain
+fn axes_domain(s: &[u8], a: AxisCurves) -> CurveDomain
     requires { ⌜ InsideAxes (now s) a × (anyEmpty (axisCurves (now s) a) ≡ false) ⌝ }
     ensures { λ r. ⌜ (r ≡ axesDomain (axisCurves (now (s .entry)) a)) × Stepped r ⌝ }
 {
@@ -177,7 +177,7 @@ fn resample_frames(
 }
 
 // Three curves at the frames of d, three floats for each frame, from the start of `out` on.
-pub fn resample_vec3(s: &[u8], a: AxisCurves, default: f64, d: CurveDomain, out: &mut [f64])
+fn resample_vec3(s: &[u8], a: AxisCurves, default: f64, d: CurveDomain, out: &mut [f64])
     requires { ⌜ InsideAxes (now s) a × Stepped d × (3 * length (framesOf d) ≤ length (now out)) ⌝ }
     ensures { λ _. ⌜ now (out .exit) ≡ sets (now (out .entry)) 0 (sampleAxes default (axisCurves (now (s .entry)) a) (framesOf d)) ⌝ }
 {

@@ -1,7 +1,6 @@
 //! Each call against the Rust, on one section.
 use crate::oracle::{self, Entry, Value};
 use crate::rng::Rng;
-use apicula::convert::gltf::curve::GlTFObjectCurves;
 use apicula::nitro::animation::{Curve, TRSCurves};
 use apicula::nitro::rotation::{basis_mat, pivot_mat};
 use apicula::util::bits::BitField;
@@ -286,24 +285,13 @@ fn object(s: &[u8], i: usize, o: usize, offset: usize, curves: TRSCurves, rng: &
 type Resample = fn(&[u8], usize, usize, &mut [f64], usize) -> motion::Result<motion::Resampled>;
 
 fn resample(s: &[u8], i: usize, o: usize, call: Resample, axes: [Curve<f64>; 3], is_translation: bool, rng: &mut Rng) -> Agreed {
-    let none = || [Curve::None, Curve::None, Curve::None];
-    let (trans, scale) = if is_translation { (axes, none()) } else { (none(), axes) };
-    let alone = TRSCurves { trans, rotation: Curve::None, scale };
-    // an empty list makes the Rust divide by zero
-    let theirs = catch_unwind(AssertUnwindSafe(|| {
-        let c = GlTFObjectCurves::for_trs_curves(&alone);
-        if is_translation {
-            c.translation
-        } else {
-            c.scale
-        }
-    }));
+    let theirs = oracle::resampled(axes, is_translation);
     let place = rng.below(4);
     let (needed, expected): (usize, Result<(Option<(u16, u16)>, Vec<Vector3<f64>>), u32>) = match theirs {
-        Err(_) => (0, Err(10)),
-        Ok(Curve::None) => (place, Ok((None, vec![]))),
-        Ok(Curve::Constant(_)) => return Err("the Rust gives a constant".into()),
-        Ok(Curve::Samples { start_frame, end_frame, values }) => (place + 3 * values.len(), Ok((Some((start_frame, end_frame)), values))),
+        None => (0, Err(10)),
+        Some(Curve::None) => (place, Ok((None, vec![]))),
+        Some(Curve::Constant(_)) => return Err("the Rust gives a constant".into()),
+        Some(Curve::Samples { start_frame, end_frame, values }) => (place + 3 * values.len(), Ok((Some((start_frame, end_frame)), values))),
     };
     let room = match rng.below(3) {
         0 => needed.saturating_sub(1),

@@ -4,6 +4,7 @@ use compare::agree::{self, Agreed, Counts};
 use compare::rng::Rng;
 use compare::{cuts, replay, sections};
 use std::io::Write;
+use std::panic::{catch_unwind, AssertUnwindSafe};
 
 struct Run {
     seed: u64,
@@ -14,7 +15,7 @@ struct Run {
 impl Run {
     /// One section; a mismatch ends the run.
     fn section(&mut self, what: &str, s: &[u8]) {
-        let agreed = agree::section(s, &mut self.rng, &mut self.counts);
+        let agreed = caught(|| agree::section(s, &mut self.rng, &mut self.counts));
         self.held(what, s, agreed);
         if self.counts.sections % 20_000 == 0 {
             progress(&self.counts);
@@ -22,7 +23,7 @@ impl Run {
     }
 
     fn cuts(&mut self, s: &[u8]) {
-        let agreed = cuts::every(s, &mut self.rng, &mut self.counts);
+        let agreed = caught(|| cuts::every(s, &mut self.rng, &mut self.counts));
         self.held("cuts", s, agreed);
     }
 
@@ -33,6 +34,14 @@ impl Run {
             std::process::exit(1);
         }
     }
+}
+
+/// A panic that nobody expected is a mismatch too.
+fn caught(compare: impl FnOnce() -> Agreed) -> Agreed {
+    catch_unwind(AssertUnwindSafe(compare)).unwrap_or_else(|panic| {
+        let said = panic.downcast_ref::<String>().cloned();
+        Err(format!("a panic: {}", said.unwrap_or_default()))
+    })
 }
 
 fn progress(c: &Counts) {
@@ -97,13 +106,21 @@ fn main() {
             run.section("pivot records", &s);
         }
     }
-    // small sections with every byte set to every value
+    // entries inside the info block
+    for s in sections::inside_the_block(&mut run.rng) {
+        run.section("entries inside the info block", &s);
+        run.cuts(&s);
+    }
+    // small sections with every byte set to every value, and every word to an extreme
     for small in sections::small(&mut run.rng) {
         for at in 0..small.len() {
             for value in 0..=255 {
                 let mut s = small.clone();
                 s[at] = value;
                 run.section("single bytes", &s);
+            }
+            for s in sections::with_words(&small, at) {
+                run.section("single words", &s);
             }
         }
     }

@@ -1,11 +1,14 @@
 //! What the Rust answers.
+use apicula::convert::gltf::curve::GlTFObjectCurves;
 use apicula::errors::Result;
-use apicula::nitro::animation::{read_animation, Animation};
+use apicula::nitro::animation::{read_animation, Animation, Curve, TRSCurves};
 use apicula::nitro::container::read_container;
 use apicula::nitro::info_block;
 use apicula::nitro::material_animation::{read_mat_anim, MaterialAnimation};
 use apicula::nitro::pattern::{read_pattern, Pattern};
 use apicula::util::cur::Cur;
+use apicula::Vector3;
+use std::panic::{catch_unwind, AssertUnwindSafe};
 
 pub enum Value {
     Jnt(Animation),
@@ -79,4 +82,21 @@ pub fn too_many_objects(s: &[u8], offset: usize) -> bool {
         Ok(stamp == b"J\0AC" && frames != 0 && objects > 99)
     };
     s.starts_with(b"JNT0") && head().unwrap_or(false)
+}
+
+/// Three curves of an object, resampled by themselves, since the Rust resamples translation and scale at once. None where it panics: an
+/// empty list makes it divide by zero.
+pub fn resampled(axes: [Curve<f64>; 3], translation: bool) -> Option<Curve<Vector3<f64>>> {
+    let none = || [Curve::None, Curve::None, Curve::None];
+    let (trans, scale) = if translation { (axes, none()) } else { (none(), axes) };
+    let alone = TRSCurves { trans, rotation: Curve::None, scale };
+    catch_unwind(AssertUnwindSafe(|| {
+        let c = GlTFObjectCurves::for_trs_curves(&alone);
+        if translation {
+            c.translation
+        } else {
+            c.scale
+        }
+    }))
+    .ok()
 }

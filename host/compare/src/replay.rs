@@ -7,10 +7,8 @@
 use crate::oracle::{self, Entry, Value};
 use crate::rng::Rng;
 use crate::sections;
-use apicula::convert::gltf::curve::GlTFObjectCurves;
-use apicula::nitro::animation::{Curve, TRSCurves};
+use apicula::nitro::animation::Curve;
 use std::fmt::Write;
-use std::panic::{catch_unwind, AssertUnwindSafe};
 
 #[derive(Clone, Copy, Default)]
 struct Call {
@@ -85,21 +83,6 @@ fn reach(s: &[u8], entry: usize) -> u64 {
     (0..=s.len()).find(|&k| accepts(k)).unwrap() as u64
 }
 
-fn resampled(curves: TRSCurves, translation: bool) -> Option<Curve<apicula::Vector3<f64>>> {
-    let none = || [Curve::None, Curve::None, Curve::None];
-    let (trans, scale) = if translation { (curves.trans, none()) } else { (none(), curves.scale) };
-    let alone = TRSCurves { trans, rotation: Curve::None, scale };
-    catch_unwind(AssertUnwindSafe(|| {
-        let c = GlTFObjectCurves::for_trs_curves(&alone);
-        if translation {
-            c.translation
-        } else {
-            c.scale
-        }
-    }))
-    .ok()
-}
-
 /// What the Rust answers. `slice` is the lent slice as words, where there is one.
 fn answer(s: &[u8], call: &Call, slice: &mut Vec<u64>) -> Answer {
     let entries = oracle::read(s);
@@ -150,7 +133,9 @@ fn answer(s: &[u8], call: &Call, slice: &mut Vec<u64>) -> Answer {
                     Ok(vec![])
                 }
                 _ => {
-                    let (span, values) = match resampled(curves, call.code == RESAMPLE_TRANSLATION) {
+                    let translation = call.code == RESAMPLE_TRANSLATION;
+                    let axes = if translation { curves.trans } else { curves.scale };
+                    let (span, values) = match oracle::resampled(axes, translation) {
                         None => return Err(10),
                         Some(Curve::Samples { start_frame, end_frame, values }) => {
                             (vec![1, start_frame as u64, end_frame as u64, values.len() as u64], values)

@@ -346,6 +346,45 @@ pub fn with_pivot(selneg: usize, rng: &mut Rng) -> Vec<u8> {
     section(b"JNT0", &[e], rng)
 }
 
+/// A section of each stamp whose entry stands inside the info block, in the names: no objects, no tracks.
+pub fn inside_the_block(rng: &mut Rng) -> Vec<Vec<u8>> {
+    let names = 24 + 8 * 3;
+    let mut entries = [b"J\0AC\x07\0".to_vec(), b"M\0AT\x07\0\0\0".to_vec(), b"P\0AT\x07\0".to_vec()];
+    // the empty info block of the other two: datum size 40 and 8
+    entries[1].extend([0; 12]);
+    put16(&mut entries[1], 40);
+    entries[2].extend([0; 6 + 12]);
+    put16(&mut entries[2], 8);
+    let stamps = [b"JNT0", b"SRT0", b"PAT0"];
+    let mut found = Vec::new();
+    for (stamp, entry) in stamps.into_iter().zip(entries) {
+        let mut s = section(stamp, &[vec![], vec![], vec![]], rng);
+        s[names..].fill(0);
+        s[names..names + entry.len()].copy_from_slice(&entry);
+        for datum in 0..3 {
+            s[36 + 4 * datum..][..4].copy_from_slice(&(names as u32).to_le_bytes());
+        }
+        found.push(s);
+    }
+    found
+}
+
+/// A section with a word of two or four bytes at `at` in the place of what stood there: the extremes, and positions around its end.
+pub fn with_words(s: &[u8], at: usize) -> Vec<Vec<u8>> {
+    let n = s.len() as u32;
+    let mut found = Vec::new();
+    for word in [0, 1, 0x7fff_ffff, 0x8000_0000, 0xffff_fffc, u32::MAX, n - 1, n, n + 1] {
+        for bytes in [&word.to_le_bytes()[..], &(word as u16).to_le_bytes()] {
+            let mut changed = s.to_vec();
+            for (b, x) in changed[at..].iter_mut().zip(bytes) {
+                *b = *x;
+            }
+            found.push(changed);
+        }
+    }
+    found
+}
+
 /// Small sections, one of each stamp and more, whose every byte is tried with every value.
 pub fn small(rng: &mut Rng) -> Vec<Vec<u8>> {
     let mut found = Vec::new();
@@ -452,4 +491,12 @@ pub fn blink(tracks: usize, keys: usize) -> Vec<u8> {
         }
     }
     section(b"PAT0", &[e], &mut Rng::new(1))
+}
+
+#[test]
+fn entries_inside_the_block_are_whole() {
+    for s in inside_the_block(&mut Rng::new(1)) {
+        let record = motion::check(&s, 2).unwrap();
+        assert_eq!((record.reach, record.frames, record.count), (s.len(), 7, 0));
+    }
 }
