@@ -6,9 +6,7 @@ use mathlib.Core.Path.{_≡_}
 use lib.Ieee.{Float}
 use lib.Seq.{sets}
 use Rattle.util.specs.Reader.{Outcome}
-use Rattle.matrix.specs.declared.Col3.{Col3}
 use Rattle.matrix.specs.declared.Mat3.{Mat3}
-use Rattle.matrix.specs.declared.Mat4.{Mat4}
 use Rattle.trs.specs.declared.ListRecord.{ListRecord}
 use Rattle.trs.specs.declared.ScalarRecord.{ScalarRecord}
 use Rattle.trs.specs.declared.CurveRecord.{CurveRecord}

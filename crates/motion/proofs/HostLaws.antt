@@ -2,7 +2,7 @@
 use Prim.Native.Nat.{ℕ, _≤_, _<_}
 use mathlib.Core.Bool.{Bool, true, false, cond}
 use mathlib.Core.List.{List}
-use mathlib.Core.Path.{_≡_, refl, sym, ap, subst, _∙_}
+use mathlib.Core.Path.{_≡_, refl, sym, ap, _∙_}
 use native.Mathlib.Omega.{arith}
 use borrow.Author.Tests.{le-leb, lt-leb, ltb-true}
 use lib.Dec.{ltb, leb}
@@ -14,16 +14,16 @@ use Rattle.util.proofs.Calls.{after, run-bind}
 use Rattle.matrix.specs.declared.Mat4.{Mat4}
 use Rattle.matrix.specs.Matrix.{bytesOf}
 use Rattle.matrix.specs.Finite.{FiniteMat}
-use Rattle.curve.specs.Curve.{none}
-use Rattle.animation.specs.Animation.{Object, noAxes, matrixAt}
+use Rattle.animation.specs.Animation.{matrixAt}
 use Rattle.nitro.specs.declared.entry.EntryCheck.{EntryCheck}
 use Rattle.nitro.specs.declared.entry.EntryRecord.{EntryRecord as Known}
 use Rattle.nitro.specs.Container.{jnt, Entry, EntryRecord, entryOf}
 use Rattle.nitro.specs.EntryCode.{checkOf}
 use Rattle.nitro.proofs.FiniteLaws.{SizedAnimation, entry-all, objects-finite}
 use Rattle.motion.specs.declared.answers.MatrixAnswer.{MatrixAnswer}
-use Rattle.motion.specs.Calls.{matrix, matrixBytes, ask, on, reader, answer, bytesAfter}
+use Rattle.motion.specs.Calls.{matrix, matrixBytes, ask, on, reader, answer}
 use Rattle.motion.specs.Answers.{matrixOf}
+use Rattle.motion.proofs.JntLaws.{stillObject}
 
 -- ---- the number of a check
 
@@ -49,7 +49,7 @@ matrix-all i o f =
     all-bind (λ e. SizedAnimation (e .held)) _ _ _ (all-after _ _ _ λ _. entry-all jnt i) λ e h. go e h (ltb o (length (e .held .objects))) refl
   where
     go : (e : Entry jnt) → SizedAnimation (e .held) → (t : Bool) → ltb o (length (e .held .objects)) ≡ t
-        → All FiniteMat (tell (given t 9 (answered (matrixAt (getD (e .held .objects) o (record { translation = noAxes; rotation = none; scale = noAxes })) f))))
+        → All FiniteMat (tell (given t 9 (answered (matrixAt (getD (e .held .objects) o stillObject) f))))
     go e h true k = objects-finite (e .held) h o (ltb-true o (length (e .held .objects)) k) _ f
     go e h false k = tt
 
@@ -58,7 +58,7 @@ module _ (s : List ℕ) (i o f : ℕ) (out : List ℕ) where
       → after x (λ m e. run (tell (ask (matrixBytes o f out) e)) s m) ≡ written (leb 128 (length out)) out (after x (λ m e. run (tell (ask (matrix o f) e)) s m))
   unfolding after ask run
   of-entry (refused n) = refl
-  of-entry (accepted m e) = go (ltb o (length (e .held .objects))) (leb 128 (length out)) (matrixAt (getD (e .held .objects) o (record { translation = noAxes; rotation = none; scale = noAxes })) f)
+  of-entry (accepted m e) = go (ltb o (length (e .held .objects))) (leb 128 (length out)) (matrixAt (getD (e .held .objects) o stillObject) f)
     where
       go : (b room : Bool) (x : Mat4) → run (tell (given b 9 (given room 11 (answered (sets out 0 (bytesOf x)))))) s m ≡ written room out (run (tell (given b 9 (answered x))) s m)
       go true true x = refl

@@ -32,7 +32,8 @@ use Rattle.motion.specs.Opened.{objectOf, ObjectAt}
 use Rattle.motion.specs.Answers.{matrixOf, curveOf, rotationAnswerOf}
 use Rattle.motion.proofs.CallsLaws.{told, stands, on-held}
 
-abbrev stillObject : Object
+-- what stands in for an object past the last
+abbrev pub stillObject : Object
 stillObject = record { translation = noAxes; rotation = none; scale = noAxes }
 
 -- past the last object every query is refused

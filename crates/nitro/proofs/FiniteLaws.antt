@@ -1,16 +1,16 @@
 -- No sample of a curve and no entry of a matrix is a NaN or an infinity, whatever the section's bytes. Assumes nothing.
 use Prim.Native.Nat.{ℕ, suc, _+_, _-_, _*_, _^_, _≤_, _<_}
-use mathlib.Core.Bool.{Bool, true, false, not, cond}
+use mathlib.Core.Bool.{Bool, true, false, cond}
 use mathlib.Core.List.{List, [], _∷_}
 use mathlib.Core.Path.{_≡_, refl, _∙_}
 use native.Mathlib.Nat.{le-trans, le-of-lt, le-mul-of-pos-right}
 use native.Mathlib.Omega.{arith}
 use borrow.Author.Tests.{leb-false}
-use lib.Dec.{T, leb, ltb, eqb, lit≤}
+use lib.Dec.{leb, ltb, eqb, lit≤}
 use lib.IntN.{ℤ, pos, negsuc}
 use lib.ListN.{length, take, drop, getD}
 use lib.Pow.{pow-pos, pow-mono}
-use lib.Ieee.{Float, fin, binary64, add, sub, mul, neg, isNan}
+use lib.Ieee.{Float, fin, binary64, add, sub, mul, neg}
 use Rattle.util.specs.Bits.{bits, bit}
 use Rattle.util.specs.Fixed.{Fix, fix1-19-12, fix1-3-12, fix1-10-5, fix1-0-12, width, half, ratio, integer, fixed, InRange}
 use Rattle.util.specs.View.{wordAt}

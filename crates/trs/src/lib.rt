@@ -26,7 +26,6 @@ use util::view::word16;
 ghost use mathlib.Core.Path.{_≡_};
 ghost use mathlib.Core.List.{map};
 ghost use Prim.Native.Nat.{_+_, _<_, _≤_};
-ghost use lib.Ieee.{Float};
 ghost use lib.ListN.{length, take, drop, getD};
 ghost use Rattle.curve.specs.Curve.{recorded, mixMat, sampleAt};
 ghost use Rattle.matrix.specs.declared.Mat3 as mat3;
