@@ -1,7 +1,6 @@
 /* Motion sections of two-screen handheld games: JNT0, SRT0, PAT0.
  *
- * Link with libmotion.a (motion_check, motion_matrix) and libexports.a (the rest), which `rt staticlib motion` and
- * `rt staticlib exports` write to target/staticlib.
+ * Link with libexports.a, which `rt staticlib exports` writes to target/staticlib.
  *
  * Every call takes a section of `length` bytes, of any length and with any contents, and ends. It answers 0, or the number of its
  * refusal:
@@ -32,8 +31,6 @@
 extern "C" {
 #endif
 
-/* ---- libmotion.a */
-
 /* Whether entry `entry` is whole: 0, or the number. */
 uint32_t motion_check(const uint8_t *section, size_t length, size_t entry);
 
@@ -41,8 +38,6 @@ uint32_t motion_check(const uint8_t *section, size_t length, size_t entry);
  * column by column, eight little-endian bytes each. The other bytes keep their contents. Fewer than 128 bytes are refused with 11, after
  * everything else. */
 uint32_t motion_matrix(const uint8_t *section, size_t length, size_t entry, size_t object, uint16_t frame, uint8_t *out, size_t out_length);
-
-/* ---- libexports.a */
 
 /* The record of an entry: the first and the last eight bytes of its name as little-endian words, its reach, its frames, and how many
  * objects or tracks it has. */
@@ -80,8 +75,11 @@ uint32_t motion_choice(const uint8_t *section, size_t length, size_t entry, size
 uint32_t motion_resample_translation(const uint8_t *section, size_t length, size_t entry, size_t object, double *floats, size_t count, size_t place, uint64_t out[4]);
 uint32_t motion_resample_scale(const uint8_t *section, size_t length, size_t entry, size_t object, double *floats, size_t count, size_t place, uint64_t out[4]);
 
+/* Bytes that hold every listing. */
+#define MOTION_LIST_ROOM 65536
+
 /* The listing of a section, as the program motion-list prints it: answers how many bytes of `out` it has. */
-size_t motion_list(const uint8_t *section, size_t length, uint8_t out[45000]);
+size_t motion_list(const uint8_t *section, size_t length, uint8_t out[MOTION_LIST_ROOM]);
 
 #ifdef __cplusplus
 }

@@ -183,8 +183,8 @@ mod calls {
     }
 }
 
-/// The most bytes that a listing has.
-const LISTING: usize = 45_000;
+/// Bytes that hold every listing: MOTION_LIST_ROOM of the header.
+const LISTING: usize = 65_536;
 
 fn answer<T>(number: u32, value: T) -> Result<T> {
     if number == 0 {

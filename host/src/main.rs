@@ -1,10 +1,16 @@
 //! motion: asks a motion section at a terminal.
 use motion::{Curve, Refusal};
+use std::ffi::OsString;
+use std::fs::File;
+use std::io::{self, ErrorKind, Read, Write};
+use std::os::fd::AsFd;
 use std::process::ExitCode;
 
-const USAGE: &str = "motion list FILE
+const USAGE: &str = "usage: motion COMMAND FILE .. [--bits]
+
+motion list FILE
 motion check FILE ENTRY
-motion find FILE NAME              NAME is text, or 0x and 32 hex digits
+motion find FILE NAME
 motion matrix FILE ENTRY OBJECT FRAME
 motion uv FILE ENTRY TRACK FRAME
 motion choice FILE ENTRY TRACK FRAME
@@ -15,31 +21,36 @@ motion curve FILE ENTRY TRACK channel CHANNEL
 motion resample FILE ENTRY OBJECT translation
 motion resample FILE ENTRY OBJECT scale
 
-FILE is a JNT0, SRT0 or PAT0 section; - is standard input. Indexes count from 0.
---bits prints each float as sixteen hex digits.
-The exit status is 0 where the section accepts, 1 where it refuses, 2 for misuse.";
+FILE is a JNT0, SRT0 or PAT0 section; - is standard input. NAME is text, or 0x and 32 hex digits. FRAME is 0 to 65535.
+ENTRY, OBJECT, TRACK, AXIS and CHANNEL count from 0.
+--bits, in any place, prints each float as sixteen hex digits.
+The exit status is 0 where the section accepts, 1 where it refuses, 2 for misuse and where reading or writing fails.";
 
 enum Stop {
-    Refused(Refusal),
+    /// The refusal, and what is printed all the same.
+    Refused(Refusal, String),
     Misuse(String),
+    Unread(String, io::Error),
 }
 
 impl From<Refusal> for Stop {
     fn from(refusal: Refusal) -> Self {
-        Stop::Refused(refusal)
+        Stop::Refused(refusal, String::new())
     }
 }
 
-type Outcome = Result<(), Stop>;
+/// What a command prints.
+type Outcome = Result<String, Stop>;
 
 struct Args {
-    words: Vec<String>,
+    words: Vec<OsString>,
     bits: bool,
 }
 
 impl Args {
     fn word(&self, at: usize, what: &str) -> Result<&str, Stop> {
-        self.words.get(at).map(String::as_str).ok_or_else(|| Stop::Misuse(format!("{what} is missing")))
+        let word = self.words.get(at).ok_or_else(|| Stop::Misuse(format!("{what} is missing")))?;
+        word.to_str().ok_or_else(|| Stop::Misuse(format!("{what} is to be UTF-8, and {word:?} is not")))
     }
 
     fn index(&self, at: usize, what: &str) -> Result<usize, Stop> {
@@ -52,7 +63,7 @@ impl Args {
         word.parse().map_err(|_| Stop::Misuse(format!("FRAME is to be a number from 0 to 65535, and {word:?} is none")))
     }
 
-    fn no_more(&self, count: usize) -> Outcome {
+    fn no_more(&self, count: usize) -> Result<(), Stop> {
         match self.words.get(count) {
             None => Ok(()),
             Some(word) => Err(Stop::Misuse(format!("{word:?} is one argument too many"))),
@@ -60,14 +71,13 @@ impl Args {
     }
 
     fn section(&self) -> Result<Vec<u8>, Stop> {
-        let file = self.word(1, "FILE")?;
-        let read = if file == "-" {
-            let mut bytes = Vec::new();
-            std::io::Read::read_to_end(&mut std::io::stdin(), &mut bytes).map(|_| bytes)
+        // a file's name may be any bytes
+        let file = self.words.get(1).ok_or_else(|| Stop::Misuse("FILE is missing".into()))?;
+        if file == "-" {
+            read_input().map_err(|e| Stop::Unread("standard input".into(), e))
         } else {
-            std::fs::read(file)
-        };
-        read.map_err(|e| Stop::Misuse(format!("{file} cannot be read: {e}")))
+            std::fs::read(file).map_err(|e| Stop::Unread(file.to_string_lossy().into(), e))
+        }
     }
 
     fn floats(&self, floats: &[f64]) -> String {
@@ -75,24 +85,32 @@ impl Args {
         words.join(" ")
     }
 
-    fn matrix<const N: usize>(&self, columns: [[f64; N]; N]) {
-        for (c, column) in columns.iter().enumerate() {
-            println!("column {c}: {}", self.floats(column));
-        }
+    fn matrix<const N: usize>(&self, columns: [[f64; N]; N]) -> String {
+        columns.iter().enumerate().map(|(c, column)| format!("column {c}: {}\n", self.floats(column))).collect()
     }
 
-    fn curve<T>(&self, curve: Curve<T>, constant: impl Fn(T)) {
+    fn curve<T>(&self, curve: Curve<T>, value: impl Fn(T) -> String) -> String {
         match curve {
-            Curve::None => println!("no curve"),
-            Curve::Constant(value) => {
-                println!("constant");
-                constant(value);
-            }
+            Curve::None => "no curve\n".into(),
+            Curve::Constant(constant) => format!("constant\n{}", value(constant)),
             Curve::List(l) => {
-                println!("list\nstart={}\nend={}\nplace={}\nlength={}\nsize={}", l.start, l.end, l.place, l.length, l.size)
+                format!("list\nstart={}\nend={}\nplace={}\nlength={}\nsize={}\n", l.start, l.end, l.place, l.length, l.size)
             }
         }
     }
+}
+
+// Standard input and output are read and written as files: std's own streams take one that cannot be read for empty, and drop what is
+// written to one that cannot be written.
+
+fn read_input() -> io::Result<Vec<u8>> {
+    let mut bytes = Vec::new();
+    File::from(io::stdin().as_fd().try_clone_to_owned()?).read_to_end(&mut bytes)?;
+    Ok(bytes)
+}
+
+fn write_output(text: &str) -> io::Result<()> {
+    File::from(io::stdout().as_fd().try_clone_to_owned()?).write_all(text.as_bytes())
 }
 
 fn shown(name: [u8; 16]) -> String {
@@ -120,65 +138,56 @@ fn name_of(word: &str) -> Result<[u8; 16], Stop> {
 
 fn list(args: &Args) -> Outcome {
     args.no_more(2)?;
-    let s = args.section()?;
-    let text = motion::list(&s);
-    print!("{text}");
+    let text = motion::list(&args.section()?);
     match text.strip_prefix("answer=") {
-        Some(number) => Err(Refusal(number.trim_end().parse().unwrap_or(0)).into()),
-        None => Ok(()),
+        Some(number) => Err(Stop::Refused(Refusal(number.trim_end().parse().unwrap_or(0)), text)),
+        None => Ok(text),
     }
 }
 
 fn check(args: &Args) -> Outcome {
     args.no_more(3)?;
     let record = motion::check(&args.section()?, args.index(2, "ENTRY")?)?;
-    println!("name={}\nreach={}\nframes={}\ncount={}", shown(record.name), record.reach, record.frames, record.count);
-    Ok(())
+    Ok(format!("name={}\nreach={}\nframes={}\ncount={}\n", shown(record.name), record.reach, record.frames, record.count))
 }
 
 fn find(args: &Args) -> Outcome {
     args.no_more(3)?;
-    match motion::find(&args.section()?, &name_of(args.word(2, "NAME")?)?)? {
-        Some(entry) => println!("entry={entry}"),
-        None => println!("no entry has this name"),
-    }
-    Ok(())
+    Ok(match motion::find(&args.section()?, &name_of(args.word(2, "NAME")?)?)? {
+        Some(entry) => format!("entry={entry}\n"),
+        None => "no entry has this name\n".into(),
+    })
 }
 
 fn matrix(args: &Args) -> Outcome {
     args.no_more(5)?;
-    args.matrix(motion::matrix(&args.section()?, args.index(2, "ENTRY")?, args.index(3, "OBJECT")?, args.frame(4)?)?);
-    Ok(())
+    Ok(args.matrix(motion::matrix(&args.section()?, args.index(2, "ENTRY")?, args.index(3, "OBJECT")?, args.frame(4)?)?))
 }
 
 fn uv(args: &Args) -> Outcome {
     args.no_more(5)?;
-    args.matrix(motion::uv_matrix(&args.section()?, args.index(2, "ENTRY")?, args.index(3, "TRACK")?, args.frame(4)?)?);
-    Ok(())
+    Ok(args.matrix(motion::uv_matrix(&args.section()?, args.index(2, "ENTRY")?, args.index(3, "TRACK")?, args.frame(4)?)?))
 }
 
 fn choice(args: &Args) -> Outcome {
     args.no_more(5)?;
     let c = motion::choice(&args.section()?, args.index(2, "ENTRY")?, args.index(3, "TRACK")?, args.frame(4)?)?;
-    println!("texture={}\npalette={}", c.texture, c.palette);
-    Ok(())
+    Ok(format!("texture={}\npalette={}\n", c.texture, c.palette))
 }
 
 fn curve(args: &Args) -> Outcome {
     let s = args.section()?;
     let (entry, index) = (args.index(2, "ENTRY")?, args.index(3, "OBJECT or TRACK")?);
-    let number = |x| println!("{}", args.floats(&[x]));
-    match args.word(4, "translation, rotation, scale or channel")? {
-        "rotation" => {
-            args.no_more(5)?;
-            args.curve(motion::rotation_curve(&s, entry, index)?, |m| args.matrix(m));
-        }
+    let kind = args.word(4, "translation, rotation, scale or channel")?;
+    args.no_more(if kind == "rotation" { 5 } else { 6 })?;
+    let number = |x| args.floats(&[x]) + "\n";
+    Ok(match kind {
+        "rotation" => args.curve(motion::rotation_curve(&s, entry, index)?, |m| args.matrix(m)),
         "translation" => args.curve(motion::translation_curve(&s, entry, index, args.index(5, "AXIS")?)?, number),
         "scale" => args.curve(motion::scale_curve(&s, entry, index, args.index(5, "AXIS")?)?, number),
         "channel" => args.curve(motion::channel_curve(&s, entry, index, args.index(5, "CHANNEL")?)?, number),
         other => return Err(Stop::Misuse(format!("there is no curve {other:?}"))),
-    }
-    args.no_more(6)
+    })
 }
 
 fn resample(args: &Args) -> Outcome {
@@ -192,46 +201,68 @@ fn resample(args: &Args) -> Outcome {
         "scale" => motion::resample_scale(&s, entry, object, &mut out, 0)?,
         other => return Err(Stop::Misuse(format!("there is no {other:?} to resample"))),
     };
-    match r.span {
-        None => println!("no curves"),
-        Some((start, end)) => println!("start={start}\nend={end}"),
+    let span = match r.span {
+        None => "no curves".into(),
+        Some((start, end)) => format!("start={start}\nend={end}"),
+    };
+    let frames: String = out.chunks(3).take(r.frames).map(|frame| args.floats(frame) + "\n").collect();
+    Ok(format!("{span}\nframes={}\n{frames}", r.frames))
+}
+
+fn run(args: &Args, options: &[OsString]) -> Outcome {
+    if let Some(option) = options.iter().find(|&o| o != "--bits" && o != "--help") {
+        return Err(Stop::Misuse(format!("there is no option {option:?}")));
     }
-    println!("frames={}", r.frames);
-    for frame in out.chunks(3).take(r.frames) {
-        println!("{}", args.floats(frame));
+    if options.iter().any(|o| o == "--help") {
+        return Ok(format!("{USAGE}\n"));
     }
-    Ok(())
+    match args.word(0, "a command")? {
+        "list" => list(args),
+        "check" => check(args),
+        "find" => find(args),
+        "matrix" => matrix(args),
+        "uv" => uv(args),
+        "choice" => choice(args),
+        "curve" => curve(args),
+        "resample" => resample(args),
+        other => Err(Stop::Misuse(format!("there is no command {other:?}"))),
+    }
+}
+
+/// How a command is used, or where that is told if there is no such command.
+fn usage(args: &Args) -> String {
+    let start = format!("motion {} ", args.word(0, "a command").unwrap_or(""));
+    let lines: Vec<_> = USAGE.lines().filter(|line| line.starts_with(&start)).collect();
+    if lines.is_empty() {
+        "motion --help shows the commands".into()
+    } else {
+        format!("usage: {}", lines.join("\n       "))
+    }
+}
+
+/// Writes a line to standard error. Where that fails, there is nobody to tell.
+fn complain(line: String) {
+    let _ = writeln!(io::stderr(), "{line}");
 }
 
 fn main() -> ExitCode {
-    let (options, words): (Vec<_>, Vec<_>) = std::env::args().skip(1).partition(|a| a.starts_with("--"));
+    let (options, words): (Vec<_>, Vec<_>) = std::env::args_os().skip(1).partition(|a| a.as_encoded_bytes().starts_with(b"--"));
     let args = Args { words, bits: options.iter().any(|o| o == "--bits") };
-    let outcome = match (options.iter().find(|&o| o != "--bits" && o != "--help"), args.words.first().map(String::as_str)) {
-        (Some(option), _) => Err(Stop::Misuse(format!("there is no option {option}"))),
-        (None, _) if options.iter().any(|o| o == "--help") => {
-            println!("{USAGE}");
-            Ok(())
-        }
-        (None, Some("list")) => list(&args),
-        (None, Some("check")) => check(&args),
-        (None, Some("find")) => find(&args),
-        (None, Some("matrix")) => matrix(&args),
-        (None, Some("uv")) => uv(&args),
-        (None, Some("choice")) => choice(&args),
-        (None, Some("curve")) => curve(&args),
-        (None, Some("resample")) => resample(&args),
-        (None, Some(other)) => Err(Stop::Misuse(format!("there is no command {other:?}"))),
-        (None, None) => Err(Stop::Misuse("a command is missing".into())),
+    let (text, complaint, status) = match run(&args, &options) {
+        Ok(text) => (text, None, 0),
+        Err(Stop::Refused(refusal, text)) => (text, Some(refusal.to_string()), 1),
+        Err(Stop::Misuse(message)) => (String::new(), Some(format!("motion: {message}\n{}", usage(&args))), 2),
+        Err(Stop::Unread(file, e)) => (String::new(), Some(format!("motion: cannot read {file}: {e}")), 2),
     };
-    match outcome {
-        Ok(()) => ExitCode::SUCCESS,
-        Err(Stop::Refused(refusal)) => {
-            eprintln!("{refusal}");
-            ExitCode::from(1)
+    if let Err(e) = write_output(&text) {
+        // a reader who has seen enough closes the pipe, and need not be told
+        if e.kind() != ErrorKind::BrokenPipe {
+            complain(format!("motion: cannot write: {e}"));
         }
-        Err(Stop::Misuse(message)) => {
-            eprintln!("motion: {message}\nmotion --help shows the commands");
-            ExitCode::from(2)
-        }
+        return ExitCode::from(2);
     }
+    if let Some(complaint) = complaint {
+        complain(complaint);
+    }
+    ExitCode::from(status)
 }

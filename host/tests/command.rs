@@ -1,5 +1,9 @@
 //! The command motion: what it prints, and its exit status.
+use std::ffi::{OsStr, OsString};
+use std::fs::{self, File};
 use std::io::Write;
+use std::os::unix::ffi::OsStrExt;
+use std::path::{Path, PathBuf};
 use std::process::{Command, Stdio};
 
 /// Standard output and the exit status of `motion WORDS`, with a section on standard input.
@@ -59,5 +63,106 @@ fn misused() {
         "check - 0 --bytes",
     ] {
         assert_eq!(motion(words, WALK), ("".into(), 2), "{words}");
+    }
+}
+
+/// Standard error and the exit status of `motion WORDS`.
+fn complaint<W: AsRef<OsStr>>(words: &[W], input: Stdio, output: Stdio) -> (String, i32) {
+    let ended = Command::new(env!("CARGO_BIN_EXE_motion")).args(words).stdin(input).stdout(output).output().unwrap();
+    (String::from_utf8(ended.stderr).unwrap(), ended.status.code().unwrap())
+}
+
+fn read_only(path: &str) -> Stdio {
+    File::open(path).unwrap().into()
+}
+
+fn write_only(path: &str) -> Stdio {
+    File::options().write(true).open(path).unwrap().into()
+}
+
+/// A file of the tests that holds a section.
+fn file(name: &OsStr) -> PathBuf {
+    let path = Path::new(env!("CARGO_TARGET_TMPDIR")).join(name);
+    fs::write(&path, WALK).unwrap();
+    path
+}
+
+#[test]
+fn usage_is_told() {
+    let (text, status) = complaint(&["check", "-"], Stdio::null(), Stdio::null());
+    assert_eq!((text.as_str(), status), ("motion: ENTRY is missing\nusage: motion check FILE ENTRY\n", 2));
+    let (text, status) = complaint(&["dance"], Stdio::null(), Stdio::null());
+    assert_eq!((text.as_str(), status), ("motion: there is no command \"dance\"\nmotion --help shows the commands\n", 2));
+    let (text, status) = motion("--help", b"");
+    assert_eq!((text.lines().next(), status), (Some("usage: motion COMMAND FILE .. [--bits]"), 0));
+}
+
+#[test]
+fn not_read() {
+    let missing = Path::new(env!("CARGO_TARGET_TMPDIR")).join("no-such-file");
+    let (text, status) = complaint(&[OsStr::new("list"), missing.as_os_str()], Stdio::null(), Stdio::null());
+    assert_eq!((text, status), (format!("motion: cannot read {}: No such file or directory (os error 2)\n", missing.display()), 2));
+    let (text, status) = complaint(&["list", "/"], Stdio::null(), Stdio::null());
+    assert_eq!((text.as_str(), status), ("motion: cannot read /: Is a directory (os error 21)\n", 2));
+    let (text, status) = complaint(&["list", "-"], read_only("/"), Stdio::null());
+    assert_eq!((text.as_str(), status), ("motion: cannot read standard input: Is a directory (os error 21)\n", 2));
+    let (text, status) = complaint(&["list", "-"], write_only("/dev/null"), Stdio::null());
+    assert_eq!((text.as_str(), status), ("motion: cannot read standard input: Bad file descriptor (os error 9)\n", 2));
+}
+
+#[test]
+fn not_written() {
+    let walk = file(OsStr::new("not-written"));
+    let walk = walk.to_str().unwrap();
+    for words in [vec!["list", walk], vec!["check", walk, "0"], vec!["resample", walk, "0", "0", "translation"], vec!["--help"]] {
+        let (text, status) = complaint(&words, Stdio::null(), write_only("/dev/full"));
+        assert_eq!((text.as_str(), status), ("motion: cannot write: No space left on device (os error 28)\n", 2), "{words:?}");
+        let (text, status) = complaint(&words, Stdio::null(), read_only("/dev/null"));
+        assert_eq!((text.as_str(), status), ("motion: cannot write: Bad file descriptor (os error 9)\n", 2), "{words:?}");
+    }
+    // a refusal that cannot be listed is no mere refusal
+    let (text, status) = complaint(&["list", "-"], Stdio::null(), write_only("/dev/full"));
+    assert_eq!((text.as_str(), status), ("motion: cannot write: No space left on device (os error 28)\n", 2));
+    // and where nothing can be said, the status still tells
+    let status = Command::new(env!("CARGO_BIN_EXE_motion")).arg("dance").stderr(write_only("/dev/full")).status().unwrap();
+    assert_eq!(status.code(), Some(2));
+}
+
+/// A pipe that nobody reads any more: a quiet end.
+#[test]
+fn not_awaited() {
+    let mut child = Command::new(env!("CARGO_BIN_EXE_motion"))
+        .args(["list", "-"])
+        .stdin(Stdio::piped())
+        .stdout(Stdio::piped())
+        .stderr(Stdio::piped())
+        .spawn()
+        .unwrap();
+    drop(child.stdout.take());
+    child.stdin.take().unwrap().write_all(WALK).unwrap();
+    let ended = child.wait_with_output().unwrap();
+    assert_eq!((ended.stderr, ended.status.code()), (vec![], Some(2)));
+}
+
+#[test]
+fn no_utf8() {
+    let bytes = OsStr::from_bytes(b"walk-\xff");
+    let path = file(bytes);
+    let run = Command::new(env!("CARGO_BIN_EXE_motion")).arg("find").arg(&path).arg("walk").output().unwrap();
+    assert_eq!((run.stdout, run.status.code()), (b"entry=0\n".to_vec(), Some(0)));
+
+    let path = path.into_os_string();
+    let text = |word: &str| OsString::from(word);
+    for words in [
+        vec![bytes.to_owned()],
+        vec![text("find"), path.clone(), bytes.to_owned()],
+        vec![text("check"), path.clone(), bytes.to_owned()],
+        vec![text("matrix"), path.clone(), text("0"), text("0"), bytes.to_owned()],
+        vec![text("curve"), path.clone(), text("0"), text("0"), bytes.to_owned()],
+        vec![text("check"), path.clone(), text("0"), bytes.to_owned()],
+        vec![text("list"), path.clone(), OsStr::from_bytes(b"--\xff").to_owned()],
+    ] {
+        let (text, status) = complaint(&words, Stdio::null(), Stdio::null());
+        assert_eq!((text.starts_with("motion: "), status), (true, 2), "{words:?}: {text}");
     }
 }

@@ -1,1 +1,4 @@
-pub mod AnimationLaws
+pub mod ScalarLaws
+pub mod RotationLaws
+pub mod ObjectLaws
+pub mod FiniteLaws

@@ -7,16 +7,13 @@ use lib.Ieee.{Float}
 use Rattle.util.specs.View.{little, wordAt, same}
 use Rattle.util.specs.Reader.{Reader, done, part, _>>=_, _>>_, bytes, word, list, each, unless}
 use Rattle.util.specs.Bits.{bits, bit}
-use Rattle.util.specs.Fixed.{fix1-3-12, fixed}
-use Rattle.animation.specs.declared.Tables.{Tables}
-use Rattle.curve.specs.declared.Number.{Number}
-use Rattle.curve.specs.declared.Number.the-variants.{Fix1_19_12, Fix1_3_12}
+use Rattle.util.specs.Fixed.{Fix, fix1-19-12, fix1-3-12, fixed}
 use Rattle.matrix.specs.declared.Col3.{Col3}
 use Rattle.matrix.specs.declared.Mat3.{Mat3}
 use Rattle.matrix.specs.declared.Mat4.{Mat4}
 use Rattle.matrix.specs.Matrix.{f0, f1, col3, identity3, trs}
 use Rattle.rotation.specs.Rotation.{pivotMat, basisMat}
-use Rattle.curve.specs.Curve.{Curve, none, constant, samples, mix, mixMat, sampleAt, numberOf}
+use Rattle.curve.specs.Curve.{ListRecord, Curve, none, constant, samples, numberBytes, numberOf, mix, mixMat, sampleAt}
 
 -- the curves of the three axes
 pub record Axes : Type 0 where
@@ -36,9 +33,42 @@ pub record Animation : Type 0 where
 abbrev pub noAxes : Axes
 noAxes = record { x = none; y = none; z = none }
 
+-- an object that nothing animates
+abbrev pub stillObject : Object
+stillObject = record { translation = noAxes; rotation = none; scale = noAxes }
+
 -- more than this many objects are refused
 abbrev pub mostObjects : ℕ
 mostObjects = 99
+
+-- ---- an object's two triples of curves: what is said of one is said of both
+
+pub data Triple : Type 0 where
+  translation scale : Triple
+
+abbrev pub axesOf : Triple → Object → Axes
+axesOf translation o = o .translation
+axesOf scale o = o .scale
+
+-- where a curve is missing
+abbrev pub defaultOf : Triple → Float
+defaultOf translation = f0
+defaultOf scale = f1
+
+-- how many numbers a value has, of which the first is used
+abbrev pub numbersOf : Triple → ℕ
+numbersOf translation = 1
+numbersOf scale = 2
+
+-- the first of the two flag bits that leave the triple out, where one of them is set
+abbrev pub leftOutBit : Triple → ℕ
+leftOutBit translation = 1
+leftOutBit scale = 9
+
+-- the flag bit that makes x constant; those of y and z follow
+abbrev pub constantBit : Triple → ℕ
+constantBit translation = 3
+constantBit scale = 11
 
 -- ---- curve words
 
@@ -58,6 +88,10 @@ rateOf w = bits w 30 32
 abbrev pub valuesOf : ℕ → ℕ
 valuesOf w = (endOf w - startOf w) / 2 ^ rateOf w
 
+-- the list of a curve word, at a place, with values of `size` bytes
+abbrev pub listOf : ℕ → ℕ → ℕ → ListRecord
+listOf w place size = record { start = startOf w; end = endOf w; place = place; size = size }
+
 -- the curve word at p: start < end is tested before more is read
 unfoldable pub curveWord : ℕ → Reader ℕ
 curveWord p = do
@@ -74,37 +108,44 @@ listFields p = do
 
 -- ---- translation and scale
 
--- bytes per number: u32 for width 0, else u16
-abbrev pub numberSize : ℕ → ℕ
-numberSize width = cond (eqb width 0) 4 2
-
 -- 1.19.12 for width 0, else 1.3.12
-abbrev pub numberKind : ℕ → Number
-numberKind width = cond (eqb width 0) Fix1_19_12 Fix1_3_12
+abbrev pub formatOf : ℕ → Fix
+formatOf width = cond (eqb width 0) fix1-19-12 fix1-3-12
+
+-- the bytes of a value
+abbrev pub valueSize : Triple → ℕ → ℕ
+valueSize t w = numberBytes (formatOf (widthOf w)) * numbersOf t
 
 -- the list of a curve word at its offset, and where the next field stands
-unfoldable pub scalarList : ℕ → ℕ → ℕ → ℕ → Reader (Curve Float × ℕ)
-scalarList numbers w off next = do
-  values ← list off (numberSize (widthOf w) * numbers) (numberOf (numberKind (widthOf w))) (valuesOf w)
-  done (samples (startOf w) (endOf w) off (numberSize (widthOf w) * numbers) values, next)
+unfoldable pub scalarList : Triple → ℕ → ℕ → ℕ → Reader (Curve Float × ℕ)
+scalarList t w off next = do
+  values ← list off (valueSize t w) (numberOf (formatOf (widthOf w))) (valuesOf w)
+  done (samples (listOf w off (valueSize t w)) values, next)
 
--- A scalar curve whose fields stand at p, and where the next field stands. A value is so many numbers, the first used: one for a
--- translation, two for a scale.
-unfoldable pub scalar : ℕ → Bool → ℕ → Reader (Curve Float × ℕ)
-scalar numbers true p = do
-  bs ← bytes p (4 * numbers)
-  done (constant (numberOf Fix1_19_12 bs), p + 4 * numbers)
-scalar numbers false p = do
+-- a scalar curve whose fields stand at p, and where the next field stands
+unfoldable pub scalar : Triple → Bool → ℕ → Reader (Curve Float × ℕ)
+scalar t true p = do
+  bs ← bytes p (4 * numbersOf t)
+  done (constant (numberOf fix1-19-12 bs), p + 4 * numbersOf t)
+scalar t false p = do
   (w, off) ← listFields p
-  scalarList numbers w off (p + 8)
+  scalarList t w off (p + 8)
 
--- the axes x, y, z in order; `first` is the flag bit that makes x constant
-unfoldable pub axes : ℕ → ℕ → ℕ → ℕ → Reader (Axes × ℕ)
-axes numbers flags first p = do
-  (x, py) ← scalar numbers (bit flags first) p
-  (y, pz) ← scalar numbers (bit flags (first + 1)) py
-  (z, end) ← scalar numbers (bit flags (first + 2)) pz
+-- axis i of a triple
+abbrev pub axis : Triple → ℕ → ℕ → ℕ → Reader (Curve Float × ℕ)
+axis t flags i p = scalar t (bit flags (constantBit t + i)) p
+
+-- the axes x, y, z in order
+unfoldable pub axes : Triple → ℕ → ℕ → Reader (Axes × ℕ)
+axes t flags p = do
+  (x, py) ← axis t flags 0 p
+  (y, pz) ← axis t flags 1 py
+  (z, end) ← axis t flags 2 pz
   done (record { x = x; y = y; z = z }, end)
+
+-- .. unless the flags leave them out
+unfoldable pub animatedAxes : Triple → ℕ → ℕ → Reader (Axes × ℕ)
+animatedAxes t flags p = cond (eqb (bits flags (leftOutBit t) (leftOutBit t + 2)) 0) (axes t flags p) (done (noAxes, p))
 
 -- ---- rotation
 
@@ -116,47 +157,64 @@ pivotOf bs = pivotMat (bits (wordAt 2 bs 0) 0 4) (bits (wordAt 2 bs 0) 4 8) (fix
 unfoldable pub basisOf : List ℕ → Mat3
 basisOf bs = basisMat (wordAt 2 bs 0) (wordAt 2 bs 2) (wordAt 2 bs 4) (wordAt 2 bs 6) (wordAt 2 bs 8)
 
--- the matrix that a u16 refers to: bit 15 set, record number bits 0..14 of the pivot data; clear, of the basis data
-unfoldable pub reference : Tables → ℕ → Reader Mat3
-reference t x =
-    cond (bit x 15)
-    (part (t .pivot + 6 * bits x 0 15) 6 (λ bs. done (pivotOf bs)))
-    (part (t .basis + 10 * bits x 0 15) 10 (λ bs. done (basisOf bs)))
+-- a record of the pivot or the basis data: where it stands, its bytes, and the matrix that they give
+pub record Referred : Type 0 where
+  pub place : ℕ
+  pub size : ℕ
+  pub gives : List ℕ → Mat3
 
--- the list of a curve word at its offset, and where the next field stands: it is read before its references are followed in order
-unfoldable pub rotationList : Tables → ℕ → ℕ → ℕ → Reader (Curve Mat3 × ℕ)
-rotationList t w off next = do
-  xs ← list off 2 little (valuesOf w)
-  ms ← each (reference t) xs
-  done (samples (startOf w) (endOf w) off 2 ms, next)
+abbrev pub pivotRecord : ℕ → Referred
+pivotRecord place = record { place = place; size = 6; gives = pivotOf }
 
--- the rotation whose fields stand at p, and where the next field stands
-unfoldable pub rotation : Tables → Bool → ℕ → Reader (Curve Mat3 × ℕ)
-rotation t true p = do
-  x ← word p 2
-  word (p + 2) 2
-  m ← reference t x
-  done (constant m, p + 4)
-rotation t false p = do
-  (w, off) ← listFields p
-  rotationList t w off (p + 8)
+abbrev pub basisRecord : ℕ → Referred
+basisRecord place = record { place = place; size = 10; gives = basisOf }
 
--- ---- objects
+-- the pivot and the basis data stand at these places
+module _ (pivot basis : ℕ) where
+  -- what a u16 refers to: bit 15 set, record number bits 0..14 of the pivot data; clear, of the basis data
+  unfoldable pub referred : ℕ → Referred
+  referred x = cond (bit x 15) (pivotRecord (pivot + 6 * bits x 0 15)) (basisRecord (basis + 10 * bits x 0 15))
 
--- an object whose flags have bit 0 clear, and its fields from p on: a nonzero pair of bits 1..2, 6..7 or 9..10 leaves out
--- translation, rotation or scale
-unfoldable pub animated : Tables → ℕ → ℕ → Reader Object
-animated t flags p = do
-  (trans, p₁) ← cond (eqb (bits flags 1 3) 0) (axes 1 flags 3 p) (done (noAxes, p))
-  (rot, p₂) ← cond (eqb (bits flags 6 8) 0) (rotation t (bit flags 8) p₁) (done (none, p₁))
-  (scale, p₃) ← cond (eqb (bits flags 9 11) 0) (axes 2 flags 11 p₂) (done (noAxes, p₂))
-  done (record { translation = trans; rotation = rot; scale = scale })
+  unfoldable pub reference : ℕ → Reader Mat3
+  reference x = part (referred x .place) (referred x .size) (λ bs. done (referred x .gives bs))
 
-unfoldable pub object : Tables → ℕ → Reader Object
-object t p = do
-  flags ← word p 2
-  bytes (p + 2) 2
-  cond (bit flags 0) (done (record { translation = noAxes; rotation = none; scale = noAxes })) (animated t flags (p + 4))
+  -- the list of a curve word at its offset, and where the next field stands: it is read before its references are followed in order
+  unfoldable pub rotationList : ℕ → ℕ → ℕ → Reader (Curve Mat3 × ℕ)
+  rotationList w off next = do
+    xs ← list off 2 little (valuesOf w)
+    ms ← each reference xs
+    done (samples (listOf w off 2) ms, next)
+
+  -- the rotation whose fields stand at p, and where the next field stands
+  unfoldable pub rotation : Bool → ℕ → Reader (Curve Mat3 × ℕ)
+  rotation true p = do
+    x ← word p 2
+    word (p + 2) 2
+    m ← reference x
+    done (constant m, p + 4)
+  rotation false p = do
+    (w, off) ← listFields p
+    rotationList w off (p + 8)
+
+  -- flag bits 6..7 leave it out where one is set, bit 8 makes it constant
+  unfoldable pub animatedRotation : ℕ → ℕ → Reader (Curve Mat3 × ℕ)
+  animatedRotation flags p = cond (eqb (bits flags 6 8) 0) (rotation (bit flags 8) p) (done (none, p))
+
+  -- ---- objects
+
+  -- an object whose flags have bit 0 clear, and its fields from p on
+  unfoldable pub animated : ℕ → ℕ → Reader Object
+  animated flags p = do
+    (trans, p₁) ← animatedAxes translation flags p
+    (rot, p₂) ← animatedRotation flags p₁
+    (size, p₃) ← animatedAxes scale flags p₂
+    done (record { translation = trans; rotation = rot; scale = size })
+
+  unfoldable pub object : ℕ → Reader Object
+  object p = do
+    flags ← word p 2
+    bytes (p + 2) 2
+    cond (bit flags 0) (done stillObject) (animated flags (p + 4))
 
 -- ---- the entry
 
@@ -175,7 +233,7 @@ animation = do
   unless (same 4 stamp animationStamp) 5
   unless (not (eqb frames 0)) 6
   unless (leb objects mostObjects) 12
-  os ← each (object (record { pivot = pivot; basis = basis })) offsets
+  os ← each (object pivot basis) offsets
   done (record { frames = frames; objects = os })
 
 -- ---- TRSCurves::sample_at

@@ -5,28 +5,36 @@ use curve::ScalarCurve;
 use util::bits::bit16;
 use util::bits::bits16;
 use util::bits::bits32;
+use util::cur::Cur;
 use util::cur::Reach;
 use util::cur::greater;
-use util::fixed::Fix1_19_12;
 use util::view::starts_with;
 use util::view::word16;
 use util::view::word32;
-ghost use mathlib.Core.Bool.{true, false, cond};
+ghost use mathlib.Core.Bool.{true, false};
 ghost use mathlib.Core.Path.{_≡_};
 ghost use Prim.Native.Nat.{_+_, _*_, _<_, _≤_};
 ghost use lib.Dec.{eqb};
 ghost use lib.ListN.{length, drop};
 ghost use Rattle.util.specs.Bits.{bits};
 ghost use Rattle.util.specs.View.{little, view};
-ghost use Rattle.util.specs.Reader.{done, run, each, reachOf};
-ghost use Rattle.curve.specs.Curve.{none};
-ghost use Rattle.animation.specs.Animation.{startOf, endOf, widthOf, numberKind, numberSize, scalarList, scalar, reference, rotationList, rotation, noAxes, axes, animated, object};
-ghost use Rattle.animation.specs.AnimationCode.{listOf, FieldsIs, ScalarReads, AxesReads, referenceEnd, RotationReads, ObjectReads, ObjectsIs, AnimationIs};
+ghost use Rattle.util.specs.Reader.{run, each};
+ghost use Rattle.util.specs.ReaderCode.{reachOf, Reads};
+ghost use Rattle.curve.specs.CurveCode.{formatMeans};
+ghost use Rattle.animation.specs.Animation.{numbersOf, leftOutBit, constantBit, startOf, endOf, widthOf, formatOf, valueSize, listFields, scalarList, scalar, axis, axes, animatedAxes, reference, rotationList, rotation, animatedRotation, animated, object};
+ghost use Rattle.animation.specs.AnimationCode.{tripleMeans, fieldsMeans, Forward, codeList, ScalarReads, AxesReads, noCurves, referredMeans, referenceEnd, RotationReads, ObjectReads, stillCurves, curvesOf, tablesAt, AnimationIs};
+ghost use Rattle.animation.specs.Animation as spec;
+
+// One of an object's two triples of curves.
+pub enum Triple {
+    Translation,
+    Scale,
+}
 
 // Where the pivot and the basis data stand.
 pub struct Tables {
-    pub pivot: usize,
-    pub basis: usize,
+    pub pivot: u32,
+    pub basis: u32,
 }
 
 // A constant rotation is the reference to its matrix.
@@ -50,23 +58,23 @@ pub struct TRSCurves {
 
 // The curve word and the offset of a list, and the reach after them.
 pub enum FieldsRead {
-    Whole(u32, usize, usize),
+    Whole(u32, u32, usize),
     Refused(u8),
 }
 
-// A curve, the place of the next field, and the reach after it.
+// A curve, and where reading stands after it.
 pub enum ScalarRead {
-    Whole(ScalarCurve, usize, usize),
+    Whole(ScalarCurve, Cur),
     Refused(u8),
 }
 
 pub enum AxesRead {
-    Whole(AxisCurves, usize, usize),
+    Whole(AxisCurves, Cur),
     Refused(u8),
 }
 
 pub enum RotationRead {
-    Whole(RotationCurve, usize, usize),
+    Whole(RotationCurve, Cur),
     Refused(u8),
 }
 
@@ -89,10 +97,40 @@ pub enum AnimationRead {
     Refused(u8),
 }
 
+// How many numbers a value of the triple has.
+fn numbers(which: Triple) -> usize
+    ensures { λ r. ⌜ (r ≡ numbersOf (tripleMeans which)) × (1 ≤ r) × (r ≤ 2) ⌝ }
+{
+    match which {
+        Triple::Translation => 1,
+        Triple::Scale => 2,
+    }
+}
+
+// The first of the two flag bits that leave the triple out.
+fn left_out_bit(which: Triple) -> u32
+    ensures { λ r. ⌜ (r ≡ leftOutBit (tripleMeans which)) × (r ≤ 9) ⌝ }
+{
+    match which {
+        Triple::Translation => 1,
+        Triple::Scale => 9,
+    }
+}
+
+// The flag bit that makes x constant; those of y and z follow.
+fn constant_bit(which: Triple) -> u32
+    ensures { λ r. ⌜ (r ≡ constantBit (tripleMeans which)) × (r ≤ 11) ⌝ }
+{
+    match which {
+        Triple::Translation => 3,
+        Triple::Scale => 11,
+    }
+}
+
 // The curve word at p and the offset behind it.
 fn read_fields(s: &[u8], p: usize, reach: usize) -> FieldsRead
     requires { ⌜ p ≤ 1048576 ⌝ }
-    ensures { λ r. ⌜ FieldsIs (now (s .entry)) p reach r ⌝ }
+    ensures { λ r. ⌜ Reads fieldsMeans Forward (listFields p) (now (s .entry)) reach r ⌝ }
 {
     if s.len() < p + 4 {
         return FieldsRead::Refused(2);
@@ -104,13 +142,13 @@ fn read_fields(s: &[u8], p: usize, reach: usize) -> FieldsRead
     if s.len() < p + 8 {
         return FieldsRead::Refused(2);
     }
-    FieldsRead::Whole(w, word32(s, p + 4) as usize, greater(reach, p + 8))
+    FieldsRead::Whole(w, word32(s, p + 4), greater(reach, p + 8))
 }
 
 // The list of a curve word.
 fn sample_list(w: u32, place: usize, size: usize) -> SampleList
     requires { ⌜ startOf w < endOf w ⌝ }
-    ensures { λ r. ⌜ r ≡ listOf w place size ⌝ }
+    ensures { λ r. ⌜ r ≡ codeList w place size ⌝ }
 {
     let start = bits32(w, 0, 16) as u16;
     let end = bits32(w, 16, 28) as u16;
@@ -125,7 +163,7 @@ fn sample_list(w: u32, place: usize, size: usize) -> SampleList
 }
 
 fn number_of(w: u32) -> Number
-    ensures { λ r. ⌜ r ≡ numberKind (widthOf w) ⌝ }
+    ensures { λ r. ⌜ formatMeans r ≡ formatOf (widthOf w) ⌝ }
 {
     if bits32(w, 28, 30) == 0 {
         Number::Fix1_19_12
@@ -134,122 +172,137 @@ fn number_of(w: u32) -> Number
     }
 }
 
-fn number_size(w: u32) -> usize
-    ensures { λ r. ⌜ r ≡ numberSize (widthOf w) ⌝ }
+// The bytes of a value of a curve word's list.
+fn value_size(which: Triple, w: u32) -> usize
+    ensures { λ r. ⌜ (r ≡ valueSize (tripleMeans which) w) × (r ≤ 8) ⌝ }
 {
-    if bits32(w, 28, 30) == 0 { 4 } else { 2 }
+    if bits32(w, 28, 30) == 0 {
+        4 * numbers(which)
+    } else {
+        2 * numbers(which)
+    }
 }
 
-// A constant: so many numbers at p, the first used.
-fn read_constant(s: &[u8], numbers: usize, p: usize, reach: usize) -> ScalarRead
-    requires { ⌜ (1 ≤ numbers) × (numbers ≤ 2) × (p ≤ 1048576) ⌝ }
-    ensures { λ r. ⌜ ScalarReads (scalar numbers true p) (now (s .entry)) reach (p + 8) r ⌝ }
+// A constant.
+fn read_constant(s: &[u8], which: Triple, at: Cur) -> ScalarRead
+    requires { ⌜ at .pos ≤ 1048576 ⌝ }
+    ensures { λ r. ⌜ ScalarReads (scalar (tripleMeans which) true (at .pos)) (now (s .entry)) (at .reach) (at .pos + 8) r ⌝ }
 {
-    let end = p + 4 * numbers;
-    if s.len() < end {
+    let pos = at.pos + 4 * numbers(which);
+    if s.len() < pos {
         return ScalarRead::Refused(2);
     }
     ScalarRead::Whole(
-        ScalarCurve::Constant(Fix1_19_12::read(word32(s, p))),
-        end,
-        greater(reach, end),
+        ScalarCurve::Constant(at.pos),
+        Cur {
+            pos,
+            reach: greater(at.reach, pos),
+        },
     )
 }
 
 // The values of a curve word's list, where its offset points.
-fn read_values(
-    s: &[u8],
-    numbers: usize,
-    w: u32,
-    place: usize,
-    next: usize,
-    reach: usize,
-) -> ScalarRead
-    requires { ⌜ (1 ≤ numbers) × (numbers ≤ 2) × (startOf w < endOf w) × (place < 4294967296) ⌝ }
-    ensures { λ r. ⌜ ScalarReads (scalarList numbers w place next) (now (s .entry)) reach next r ⌝ }
+fn read_values(s: &[u8], which: Triple, w: u32, offset: u32, at: Cur) -> ScalarRead
+    requires { ⌜ startOf w < endOf w ⌝ }
+    ensures { λ r. ⌜ ScalarReads (scalarList (tripleMeans which) w offset (at .pos)) (now (s .entry)) (at .reach) (at .pos) r ⌝ }
 {
-    let size = number_size(w) * numbers;
-    let list = sample_list(w, place, size);
-    let end = place + size * list.length;
+    let size = value_size(which, w);
+    let list = sample_list(w, offset as usize, size);
+    let end = offset as usize + size * list.length;
     if s.len() < end {
         return ScalarRead::Refused(2);
     }
     ScalarRead::Whole(
         ScalarCurve::Samples(list, number_of(w)),
-        next,
-        greater(reach, end),
+        Cur {
+            pos: at.pos,
+            reach: greater(at.reach, end),
+        },
     )
 }
 
-// A list: its fields at p, then its values.
-fn read_list(s: &[u8], numbers: usize, p: usize, reach: usize) -> ScalarRead
-    requires { ⌜ (1 ≤ numbers) × (numbers ≤ 2) × (p ≤ 1048576) ⌝ }
-    ensures { λ r. ⌜ ScalarReads (scalar numbers false p) (now (s .entry)) reach (p + 8) r ⌝ }
+// A list: its fields, then its values.
+fn read_list(s: &[u8], which: Triple, at: Cur) -> ScalarRead
+    requires { ⌜ at .pos ≤ 1048576 ⌝ }
+    ensures { λ r. ⌜ ScalarReads (scalar (tripleMeans which) false (at .pos)) (now (s .entry)) (at .reach) (at .pos + 8) r ⌝ }
 {
-    match read_fields(s, p, reach) {
+    match read_fields(s, at.pos, at.reach) {
         FieldsRead::Refused(n) => ScalarRead::Refused(n),
-        FieldsRead::Whole(w, place, far) => read_values(s, numbers, w, place, p + 8, far),
-    }
-}
-
-// A scalar curve whose fields stand at p: one number per value for a translation, two for a scale.
-fn read_scalar(s: &[u8], numbers: usize, constant: bool, p: usize, reach: usize) -> ScalarRead
-    requires { ⌜ (1 ≤ numbers) × (numbers ≤ 2) × (p ≤ 1048576) ⌝ }
-    ensures { λ r. ⌜ ScalarReads (scalar numbers constant p) (now (s .entry)) reach (p + 8) r ⌝ }
-{
-    if constant {
-        read_constant(s, numbers, p, reach)
-    } else {
-        read_list(s, numbers, p, reach)
-    }
-}
-
-// The curves of x, y and z, one whole before the next; bit `first` of the flags makes x constant.
-fn read_axes(s: &[u8], numbers: usize, flags: u16, first: u32, p: usize, reach: usize) -> AxesRead
-    requires { ⌜ (1 ≤ numbers) × (numbers ≤ 2) × (first ≤ 13) × (p ≤ 524288) ⌝ }
-    ensures { λ r. ⌜ AxesReads (axes numbers flags first p) (now (s .entry)) reach (p + 24) r ⌝ }
-{
-    match read_scalar(s, numbers, bit16(flags, first), p, reach) {
-        ScalarRead::Refused(n) => AxesRead::Refused(n),
-        ScalarRead::Whole(x, py, mx) => match read_scalar(
+        FieldsRead::Whole(w, offset, reach) => read_values(
             s,
-            numbers,
-            bit16(flags, first + 1),
-            py,
-            mx,
-        ) {
+            which,
+            w,
+            offset,
+            Cur {
+                pos: at.pos + 8,
+                reach,
+            },
+        ),
+    }
+}
+
+// The curve of axis i.
+fn read_axis(s: &[u8], which: Triple, flags: u16, i: u32, at: Cur) -> ScalarRead
+    requires { ⌜ (i ≤ 2) × (at .pos ≤ 1048576) ⌝ }
+    ensures { λ r. ⌜ ScalarReads (axis (tripleMeans which) flags i (at .pos)) (now (s .entry)) (at .reach) (at .pos + 8) r ⌝ }
+{
+    if bit16(flags, constant_bit(which) + i) {
+        read_constant(s, which, at)
+    } else {
+        read_list(s, which, at)
+    }
+}
+
+// The curves of x, y and z, one whole before the next.
+fn read_axes(s: &[u8], which: Triple, flags: u16, at: Cur) -> AxesRead
+    requires { ⌜ at .pos ≤ 524288 ⌝ }
+    ensures { λ r. ⌜ AxesReads (axes (tripleMeans which) flags (at .pos)) (now (s .entry)) (at .reach) (at .pos + 24) r ⌝ }
+{
+    match read_axis(s, which, flags, 0, at) {
+        ScalarRead::Refused(n) => AxesRead::Refused(n),
+        ScalarRead::Whole(x, y_at) => match read_axis(s, which, flags, 1, y_at) {
             ScalarRead::Refused(n) => AxesRead::Refused(n),
-            ScalarRead::Whole(y, pz, my) => match read_scalar(
-                s,
-                numbers,
-                bit16(flags, first + 2),
-                pz,
-                my,
-            ) {
+            ScalarRead::Whole(y, z_at) => match read_axis(s, which, flags, 2, z_at) {
                 ScalarRead::Refused(n) => AxesRead::Refused(n),
-                ScalarRead::Whole(z, end, mz) => AxesRead::Whole(AxisCurves { x, y, z }, end, mz),
+                ScalarRead::Whole(z, end) => AxesRead::Whole(AxisCurves { x, y, z }, end),
             },
         },
     }
 }
 
-// Where the record ends that x refers to: bit 15 tells the pivot data from the basis data.
-fn reference_end(t: Tables, x: u16) -> usize
-    requires { ⌜ (t .pivot < 4294967296) × (t .basis < 4294967296) ⌝ }
-    ensures { λ r. ⌜ (r ≡ referenceEnd t x) × (r < 8589934592) ⌝ }
+// What a u16 refers to: a record of the pivot or of the basis data, by where it stands.
+pub enum Referred {
+    Pivot(usize),
+    Basis(usize),
+}
+
+pub fn refer(t: Tables, x: u16) -> Referred
+    ensures { λ r. ⌜ referredMeans r ≡ spec.referred (t .pivot) (t .basis) x ⌝ }
 {
     let i = bits16(x, 0, 15) as usize;
+    // looked up and not chosen by an `if`: the loop over references takes half the time so
+    let tables = [t.basis as usize, t.pivot as usize];
+    let table = tables[bits16(x, 15, 16) as usize];
     if bit16(x, 15) {
-        t.pivot + 6 * i + 6
+        Referred::Pivot(table + 6 * i)
     } else {
-        t.basis + 10 * i + 10
+        Referred::Basis(table + 10 * i)
+    }
+}
+
+// Where the record ends that x refers to.
+fn reference_end(t: Tables, x: u16) -> usize
+    ensures { λ r. ⌜ r ≡ referenceEnd t x ⌝ }
+{
+    match refer(t, x) {
+        Referred::Pivot(place) => place + 6,
+        Referred::Basis(place) => place + 10,
     }
 }
 
 // How far the record reaches that x refers to.
 fn follow(s: &[u8], t: Tables, x: u16, reach: usize) -> Reach
-    requires { ⌜ (t .pivot < 4294967296) × (t .basis < 4294967296) ⌝ }
-    ensures { λ r. ⌜ r ≡ reachOf (run (reference t x) (now (s .entry)) reach) ⌝ }
+    ensures { λ r. ⌜ r ≡ reachOf (run (reference (t .pivot) (t .basis) x) (now (s .entry)) reach) ⌝ }
 {
     let end = reference_end(t, x);
     if s.len() < end {
@@ -261,8 +314,8 @@ fn follow(s: &[u8], t: Tables, x: u16, reach: usize) -> Reach
 
 // How far the records reach that the n references at `list` lead to.
 fn follow_all(s: &[u8], t: Tables, list: usize, n: usize, reach: usize) -> Reach
-    requires { ⌜ (t .pivot < 4294967296) × (t .basis < 4294967296) × (list + 2 * n ≤ length (now s)) ⌝ }
-    ensures { λ r. ⌜ r ≡ reachOf (run (each (reference t) (view 2 little n (drop list (now (s .entry))))) (now (s .entry)) reach) ⌝ }
+    requires { ⌜ list + 2 * n ≤ length (now s) ⌝ }
+    ensures { λ r. ⌜ r ≡ reachOf (run (each (reference (t .pivot) (t .basis)) (view 2 little n (drop list (now (s .entry))))) (now (s .entry)) reach) ⌝ }
 {
     let mut far = reach;
     let mut i = 0usize;
@@ -279,69 +332,64 @@ fn follow_all(s: &[u8], t: Tables, list: usize, n: usize, reach: usize) -> Reach
 }
 
 // A constant rotation: a reference, and two bytes skipped.
-fn read_constant_rotation(s: &[u8], t: Tables, p: usize, reach: usize) -> RotationRead
-    requires { ⌜ (t .pivot < 4294967296) × (t .basis < 4294967296) × (p ≤ 1048576) ⌝ }
-    ensures { λ r. ⌜ RotationReads (rotation t true p) t (now (s .entry)) reach (p + 8) r ⌝ }
+fn read_constant_rotation(s: &[u8], t: Tables, at: Cur) -> RotationRead
+    requires { ⌜ at .pos ≤ 1048576 ⌝ }
+    ensures { λ r. ⌜ RotationReads (rotation (t .pivot) (t .basis) true (at .pos)) t (now (s .entry)) (at .reach) (at .pos + 8) r ⌝ }
 {
-    if s.len() < p + 4 {
+    let pos = at.pos + 4;
+    if s.len() < pos {
         return RotationRead::Refused(2);
     }
-    let x = word16(s, p);
-    match follow(s, t, x, greater(reach, p + 4)) {
+    let x = word16(s, at.pos);
+    match follow(s, t, x, greater(at.reach, pos)) {
         Reach::Refused(n) => RotationRead::Refused(n),
-        Reach::Whole(m) => RotationRead::Whole(RotationCurve::Constant(x), p + 4, m),
+        Reach::Whole(reach) => RotationRead::Whole(RotationCurve::Constant(x), Cur { pos, reach }),
     }
 }
 
 // The references of a curve word's list, where its offset points, followed in order.
-fn read_references(
-    s: &[u8],
-    t: Tables,
-    w: u32,
-    place: usize,
-    next: usize,
-    reach: usize,
-) -> RotationRead
-    requires { ⌜ (t .pivot < 4294967296) × (t .basis < 4294967296) × (startOf w < endOf w) × (place < 4294967296) ⌝ }
-    ensures { λ r. ⌜ RotationReads (rotationList t w place next) t (now (s .entry)) reach next r ⌝ }
+fn read_references(s: &[u8], t: Tables, w: u32, offset: u32, at: Cur) -> RotationRead
+    requires { ⌜ startOf w < endOf w ⌝ }
+    ensures { λ r. ⌜ RotationReads (rotationList (t .pivot) (t .basis) w offset (at .pos)) t (now (s .entry)) (at .reach) (at .pos) r ⌝ }
 {
+    let place = offset as usize;
     let list = sample_list(w, place, 2);
     let n = list.length;
     let end = place + 2 * n;
     if s.len() < end {
         return RotationRead::Refused(2);
     }
-    match follow_all(s, t, place, n, greater(reach, end)) {
+    match follow_all(s, t, place, n, greater(at.reach, end)) {
         Reach::Refused(c) => RotationRead::Refused(c),
-        Reach::Whole(m) => RotationRead::Whole(RotationCurve::Samples(list), next, m),
+        Reach::Whole(reach) => RotationRead::Whole(
+            RotationCurve::Samples(list),
+            Cur { pos: at.pos, reach },
+        ),
     }
 }
 
-// A list of rotations: its fields at p, then its references.
-fn read_rotation_list(s: &[u8], t: Tables, p: usize, reach: usize) -> RotationRead
-    requires { ⌜ (t .pivot < 4294967296) × (t .basis < 4294967296) × (p ≤ 1048576) ⌝ }
-    ensures { λ r. ⌜ RotationReads (rotation t false p) t (now (s .entry)) reach (p + 8) r ⌝ }
+// A list of rotations: its fields, then its references.
+fn read_rotation_list(s: &[u8], t: Tables, at: Cur) -> RotationRead
+    requires { ⌜ at .pos ≤ 1048576 ⌝ }
+    ensures { λ r. ⌜ RotationReads (rotation (t .pivot) (t .basis) false (at .pos)) t (now (s .entry)) (at .reach) (at .pos + 8) r ⌝ }
 {
-    match read_fields(s, p, reach) {
+    match read_fields(s, at.pos, at.reach) {
         FieldsRead::Refused(n) => RotationRead::Refused(n),
-        FieldsRead::Whole(w, place, far) => read_references(s, t, w, place, p + 8, far),
-    }
-}
-
-// The rotation whose fields stand at p.
-fn read_rotation(s: &[u8], t: Tables, constant: bool, p: usize, reach: usize) -> RotationRead
-    requires { ⌜ (t .pivot < 4294967296) × (t .basis < 4294967296) × (p ≤ 1048576) ⌝ }
-    ensures { λ r. ⌜ RotationReads (rotation t constant p) t (now (s .entry)) reach (p + 8) r ⌝ }
-{
-    if constant {
-        read_constant_rotation(s, t, p, reach)
-    } else {
-        read_rotation_list(s, t, p, reach)
+        FieldsRead::Whole(w, offset, reach) => read_references(
+            s,
+            t,
+            w,
+            offset,
+            Cur {
+                pos: at.pos + 8,
+                reach,
+            },
+        ),
     }
 }
 
 pub fn no_axes() -> AxisCurves
-    ensures { λ r. ⌜ r ≡ record { x = ScalarCurve.None; y = ScalarCurve.None; z = ScalarCurve.None } ⌝ }
+    ensures { λ r. ⌜ r ≡ noCurves ⌝ }
 {
     AxisCurves {
         x: ScalarCurve::None,
@@ -350,45 +398,7 @@ pub fn no_axes() -> AxisCurves
     }
 }
 
-// Three axes where they are animated, and none where they are not.
-fn read_animated_axes(
-    s: &[u8],
-    moved: bool,
-    numbers: usize,
-    flags: u16,
-    first: u32,
-    p: usize,
-    reach: usize,
-) -> AxesRead
-    requires { ⌜ (1 ≤ numbers) × (numbers ≤ 2) × (first ≤ 13) × (p ≤ 524288) ⌝ }
-    ensures { λ r. ⌜ AxesReads (cond moved (axes numbers flags first p) (done (noAxes, p))) (now (s .entry)) reach (p + 24) r ⌝ }
-{
-    if moved {
-        read_axes(s, numbers, flags, first, p, reach)
-    } else {
-        AxesRead::Whole(no_axes(), p, reach)
-    }
-}
-
-fn read_animated_rotation(
-    s: &[u8],
-    t: Tables,
-    moved: bool,
-    constant: bool,
-    p: usize,
-    reach: usize,
-) -> RotationRead
-    requires { ⌜ (t .pivot < 4294967296) × (t .basis < 4294967296) × (p ≤ 1048576) ⌝ }
-    ensures { λ r. ⌜ RotationReads (cond moved (rotation t constant p) (done (none, p))) t (now (s .entry)) reach (p + 8) r ⌝ }
-{
-    if moved {
-        read_rotation(s, t, constant, p, reach)
-    } else {
-        RotationRead::Whole(RotationCurve::None, p, reach)
-    }
-}
-
-// Whether two bits of the flags are clear.
+// Whether the two flag bits from lo on are clear.
 fn is_clear(flags: u16, lo: u32) -> bool
     requires { ⌜ lo ≤ 14 ⌝ }
     ensures { λ r. ⌜ r ≡ eqb (bits flags lo (lo + 2)) 0 ⌝ }
@@ -396,26 +406,53 @@ fn is_clear(flags: u16, lo: u32) -> bool
     bits16(flags, lo, lo + 2) == 0
 }
 
-// The fields of an animated object from p on: translation, rotation, scale.
-fn read_animated(s: &[u8], t: Tables, flags: u16, p: usize, reach: usize) -> ObjectRead
-    requires { ⌜ (t .pivot < 4294967296) × (t .basis < 4294967296) × (p ≤ 131072) ⌝ }
-    ensures { λ r. ⌜ ObjectReads (animated t flags p) t (now (s .entry)) reach r ⌝ }
+// Three axes where they are animated, and none where they are left out.
+fn read_animated_axes(s: &[u8], which: Triple, flags: u16, at: Cur) -> AxesRead
+    requires { ⌜ at .pos ≤ 524288 ⌝ }
+    ensures { λ r. ⌜ AxesReads (animatedAxes (tripleMeans which) flags (at .pos)) (now (s .entry)) (at .reach) (at .pos + 24) r ⌝ }
 {
-    match read_animated_axes(s, is_clear(flags, 1), 1, flags, 3, p, reach) {
+    if is_clear(flags, left_out_bit(which)) {
+        read_axes(s, which, flags, at)
+    } else {
+        AxesRead::Whole(no_axes(), at)
+    }
+}
+
+// A rotation where it is animated, and none where it is left out.
+fn read_animated_rotation(s: &[u8], t: Tables, flags: u16, at: Cur) -> RotationRead
+    requires { ⌜ at .pos ≤ 1048576 ⌝ }
+    ensures { λ r. ⌜ RotationReads (animatedRotation (t .pivot) (t .basis) flags (at .pos)) t (now (s .entry)) (at .reach) (at .pos + 8) r ⌝ }
+{
+    if !is_clear(flags, 6) {
+        return RotationRead::Whole(RotationCurve::None, at);
+    }
+    if bit16(flags, 8) {
+        read_constant_rotation(s, t, at)
+    } else {
+        read_rotation_list(s, t, at)
+    }
+}
+
+// The fields of an animated object: translation, rotation, scale.
+fn read_animated(s: &[u8], t: Tables, flags: u16, at: Cur) -> ObjectRead
+    requires { ⌜ at .pos ≤ 131072 ⌝ }
+    ensures { λ r. ⌜ ObjectReads (animated (t .pivot) (t .basis) flags (at .pos)) t (now (s .entry)) (at .reach) r ⌝ }
+{
+    match read_animated_axes(s, Triple::Translation, flags, at) {
         AxesRead::Refused(n) => ObjectRead::Refused(n),
-        AxesRead::Whole(trans, p1, m1) => {
-            match read_animated_rotation(s, t, is_clear(flags, 6), bit16(flags, 8), p1, m1) {
+        AxesRead::Whole(trans, rotation_at) => {
+            match read_animated_rotation(s, t, flags, rotation_at) {
                 RotationRead::Refused(n) => ObjectRead::Refused(n),
-                RotationRead::Whole(rotation, p2, m2) => {
-                    match read_animated_axes(s, is_clear(flags, 9), 2, flags, 11, p2, m2) {
+                RotationRead::Whole(rotation, scale_at) => {
+                    match read_animated_axes(s, Triple::Scale, flags, scale_at) {
                         AxesRead::Refused(n) => ObjectRead::Refused(n),
-                        AxesRead::Whole(scale, _, m3) => ObjectRead::Whole(
+                        AxesRead::Whole(scale, end) => ObjectRead::Whole(
                             TRSCurves {
                                 trans,
                                 rotation,
                                 scale,
                             },
-                            m3,
+                            end.reach,
                         ),
                     }
                 }
@@ -424,33 +461,48 @@ fn read_animated(s: &[u8], t: Tables, flags: u16, p: usize, reach: usize) -> Obj
     }
 }
 
+// The curves of an object that nothing animates.
+pub fn still_curves() -> TRSCurves
+    ensures { λ r. ⌜ r ≡ stillCurves ⌝ }
+{
+    TRSCurves {
+        trans: no_axes(),
+        rotation: RotationCurve::None,
+        scale: no_axes(),
+    }
+}
+
 // The object at p.
 pub fn read_object(s: &[u8], t: Tables, p: usize, reach: usize) -> ObjectRead
-    requires { ⌜ (t .pivot < 4294967296) × (t .basis < 4294967296) × (p ≤ 65535) ⌝ }
-    ensures { λ r. ⌜ ObjectReads (object t p) t (now (s .entry)) reach r ⌝ }
+    requires { ⌜ p ≤ 65535 ⌝ }
+    ensures { λ r. ⌜ ObjectReads (object (t .pivot) (t .basis) p) t (now (s .entry)) reach r ⌝ }
 {
-    if s.len() < p + 4 {
+    let pos = p + 4;
+    if s.len() < pos {
         return ObjectRead::Refused(2);
     }
     let flags = word16(s, p);
-    let far = greater(reach, p + 4);
+    let far = greater(reach, pos);
     if bit16(flags, 0) {
-        return ObjectRead::Whole(
-            TRSCurves {
-                trans: no_axes(),
-                rotation: RotationCurve::None,
-                scale: no_axes(),
-            },
-            far,
-        );
+        return ObjectRead::Whole(still_curves(), far);
     }
-    read_animated(s, t, flags, p + 4, far)
+    read_animated(s, t, flags, Cur { pos, reach: far })
+}
+
+// The curves of a triple.
+pub fn curves_of(which: Triple, c: TRSCurves) -> AxisCurves
+    ensures { λ r. ⌜ r ≡ curvesOf which c ⌝ }
+{
+    match which {
+        Triple::Translation => c.trans,
+        Triple::Scale => c.scale,
+    }
 }
 
 // How far an object reaches.
 fn follow_object(s: &[u8], t: Tables, p: usize, reach: usize) -> Reach
-    requires { ⌜ (t .pivot < 4294967296) × (t .basis < 4294967296) × (p ≤ 65535) ⌝ }
-    ensures { λ r. ⌜ r ≡ reachOf (run (object t p) (now (s .entry)) reach) ⌝ }
+    requires { ⌜ p ≤ 65535 ⌝ }
+    ensures { λ r. ⌜ r ≡ reachOf (run (object (t .pivot) (t .basis) p) (now (s .entry)) reach) ⌝ }
 {
     match read_object(s, t, p, reach) {
         ObjectRead::Whole(_, m) => Reach::Whole(m),
@@ -460,8 +512,8 @@ fn follow_object(s: &[u8], t: Tables, p: usize, reach: usize) -> Reach
 
 // How far the n objects reach whose offsets stand at 20.
 fn follow_objects(s: &[u8], t: Tables, n: usize, reach: usize) -> Reach
-    requires { ⌜ (t .pivot < 4294967296) × (t .basis < 4294967296) × (20 + 2 * n ≤ length (now s)) ⌝ }
-    ensures { λ r. ⌜ r ≡ reachOf (run (each (object t) (view 2 little n (drop 20 (now (s .entry))))) (now (s .entry)) reach) ⌝ }
+    requires { ⌜ 20 + 2 * n ≤ length (now s) ⌝ }
+    ensures { λ r. ⌜ r ≡ reachOf (run (each (object (t .pivot) (t .basis)) (view 2 little n (drop 20 (now (s .entry))))) (now (s .entry)) reach) ⌝ }
 {
     let mut far = reach;
     let mut i = 0usize;
@@ -477,23 +529,13 @@ fn follow_objects(s: &[u8], t: Tables, n: usize, reach: usize) -> Reach
     Reach::Whole(far)
 }
 
-// The objects of an entry whose header is whole.
-fn read_objects(s: &[u8], frames: u16, objects: usize) -> AnimationRead
-    requires { ⌜ 20 + 2 * objects ≤ length (now s) ⌝ }
-    ensures { λ r. ⌜ ObjectsIs (now (s .entry)) frames objects r ⌝ }
+fn read_tables(s: &[u8]) -> Tables
+    requires { ⌜ 20 ≤ length (now s) ⌝ }
+    ensures { λ r. ⌜ r ≡ tablesAt (now (s .entry)) ⌝ }
 {
-    let tables = Tables {
-        pivot: word32(s, 12) as usize,
-        basis: word32(s, 16) as usize,
-    };
-    match follow_objects(s, tables, objects, 20 + 2 * objects) {
-        Reach::Refused(n) => AnimationRead::Refused(n),
-        Reach::Whole(reach) => AnimationRead::Whole(Animation {
-            frames,
-            objects,
-            tables,
-            reach,
-        }),
+    Tables {
+        pivot: word32(s, 12),
+        basis: word32(s, 16),
     }
 }
 
@@ -517,5 +559,14 @@ pub fn read_animation(s: &[u8]) -> AnimationRead
     if objects > 99 {
         return AnimationRead::Refused(12);
     }
-    read_objects(s, frames, objects)
+    let tables = read_tables(s);
+    match follow_objects(s, tables, objects, 20 + 2 * objects) {
+        Reach::Refused(n) => AnimationRead::Refused(n),
+        Reach::Whole(reach) => AnimationRead::Whole(Animation {
+            frames,
+            objects,
+            tables,
+            reach,
+        }),
+    }
 }

@@ -3,12 +3,12 @@ use mathlib.Core.Path.{_≡_, refl, sym, ap, _∙_, subst}
 use mathlib.Core.Logic.{_⊎_, inl, inr}
 use mathlib.Core.Bool.{Bool, true, false, cond, true≢false}
 use Prim.Native.Nat.{ℕ, _+_, _-_, _*_, _/_, _%_, _^_, _≤_, _<_}
-use native.Mathlib.Nat.{lt-irrefl, zero-mul, eq-or-lt-of-le, le-trans, le-of-eq, lt-of-le-of-lt, mul-one, one-mul, mul-comm, mul-assoc, mul-left-comm, mul-le-mul-right, mul-lt-mul-of-pos-right, mul-pos, div-lt-iff-lt-mul, mul-mod-left}
+use native.Mathlib.Nat.{eq-or-lt-of-le, le-trans, le-of-eq, lt-of-le-of-lt, mul-one, one-mul, mul-comm, mul-assoc, mul-left-comm, mul-le-mul-right, mul-lt-mul-of-pos-right, mul-pos, div-lt-iff-lt-mul, mul-mod-left}
 use native.Mathlib.Omega.{arith}
 use lib.Dec.{T, eqb, le→leb, lit≤, lit<}
 use lib.IntN.{pos}
-use borrow.Author.Tests.{ne-eqb, eqb-false}
-use lib.Ieee.{Float, nan, inf, fin, binary64, up, down, round, mul, div, ofInt, inFloat}
+use borrow.Author.Tests.{eqb-false}
+use lib.Ieee.{Float, fin, binary64, up, down, round, mul, div, ofInt, inFloat}
 use lib.Ieee.Fits.{down-pos}
 use lib.Ieee.Exact.{HasValue}
 use lib.Ieee.Back.{round-whole}
@@ -16,33 +16,16 @@ use lib.Ieee.Nearest.{div-mono}
 use lib.Ieee.Scale.{round-same}
 use lib.Ieee.Positive.{num, den, den-pos}
 use Rattle.util.specs.Within.{Under, Upto}
+use Rattle.util.proofs.RoundLaws.{quotient}
 use Rattle.util.proofs.WithinLaws.{round-upto}
-use Rattle.curve.specs.Curve.{floor, ceil, whole, index}
+use Rattle.curve.specs.Curve.{floor, ceil, ofWhole, index}
 
 -- a whole number up to 2 ^ 53 is a float as it is
 pub exact : {n : ℕ} → n ≤ 2 ^ 53 → T (inFloat binary64 (pos n))
 unfolding inFloat
 exact {n} h = le→leb n (2 ^ 53) h
 
--- ---- the quotient and the product of such values
-cross : (x y p q a b : ℕ) → x * 1 ≡ a * p → y * 1 ≡ b * q → x * q * b ≡ a * (y * p)
-cross x y p q a b v w =
-    let v' : x ≡ a * p = sym (mul-one x) ∙ v in
-    let w' : y ≡ b * q = sym (mul-one y) ∙ w in
-    rw (v', w') (simp (mul-assoc, mul-comm, mul-left-comm))
-
-quot : (x y : Float) (a b : ℕ) → HasValue x false a 1 → HasValue y false b 1 → 0 < b → div binary64 x y ≡ round binary64 false a b
-unfolding div
-quot (fin true m e) y a b v w B = absurd (true≢false (v .0))
-quot (fin false m e) (fin true n d) a b v w B = absurd (true≢false (w .0))
-quot (fin false m e) (fin false n d) a b v w B =
-    let y-pos : 0 < n * up d = subst (λ (k : ℕ). 0 < k) (sym (sym (mul-one (n * up d)) ∙ w .1)) (mul-pos B (down-pos d)) in
-    ap (λ (t : Bool). cond t (cond (eqb m 0) nan (inf false)) (round binary64 false (m * up e * down d) (n * up d * down e))) (ne-eqb n 0 (not-zero n (up d) y-pos))
-    ∙ round-same binary64 false (m * up e * down d) (n * up d * down e) a b (mul-pos y-pos (down-pos e)) B (cross (m * up e) (n * up d) (down e) (down d) a b (v .1) (w .1))
-  where
-    not-zero : (n k : ℕ) → 0 < n * k → n ≡ 0 → ⊥
-    not-zero n k h z = lt-irrefl 0 (subst (λ (x : ℕ). 0 < x) (ap (λ (x : ℕ). x * k) z ∙ zero-mul k) h)
-
+-- ---- the product of such values
 prod : (x y : Float) (m n : ℕ) → Upto x m → HasValue y false n 1 → mul binary64 x y ≡ round binary64 false (num x * n) (den x)
 unfolding mul
 prod (fin true k e) y m n u w = absurd (true≢false (u .0))
@@ -58,14 +41,14 @@ upto-cross : (x : Float) (n : ℕ) → Upto x n → num x ≤ n * den x
 upto-cross (fin s m e) n u = u .1
 
 -- fl (fl (a / b) * m) is at most m, for a ≤ b
-pub place-upto : (a b m : ℕ) → 0 < b → a ≤ b → b ≤ 2 ^ 53 → m ≤ 2 ^ 53 → Upto (mul binary64 (div binary64 (whole a) (whole b)) (whole m)) m
+pub place-upto : (a b m : ℕ) → 0 < b → a ≤ b → b ≤ 2 ^ 53 → m ≤ 2 ^ 53 → Upto (mul binary64 (div binary64 (ofWhole a) (ofWhole b)) (ofWhole m)) m
 unfolding ofInt
 place-upto a b m B h L M =
     let f = round binary64 false a b in
-    let q : div binary64 (whole a) (whole b) ≡ f = quot (whole a) (whole b) a b (round-whole binary64 false a (le-trans h L)) (round-whole binary64 false b L) B in
+    let q : div binary64 (ofWhole a) (ofWhole b) ≡ f = quotient (ofWhole a) (ofWhole b) false a b (round-whole binary64 false a (le-trans h L)) (round-whole binary64 false b L) B in
     let u : Upto f 1 = round-upto a b 1 B (lit≤ tt) (le-trans h (le-of-eq (sym (one-mul b)))) in
-    let p : mul binary64 f (whole m) ≡ round binary64 false (num f * m) (den f) = prod f (whole m) 1 m u (round-whole binary64 false m M) in
-    subst (λ (z : Float). Upto z m) (sym (ap (λ (z : Float). mul binary64 z (whole m)) q ∙ p))
+    let p : mul binary64 f (ofWhole m) ≡ round binary64 false (num f * m) (den f) = prod f (ofWhole m) 1 m u (round-whole binary64 false m M) in
+    subst (λ (z : Float). Upto z m) (sym (ap (λ (z : Float). mul binary64 z (ofWhole m)) q ∙ p))
     (round-upto (num f * m) (den f) m (den-pos f) M
     (le-trans (mul-le-mul-right m (upto-cross f 1 u)) (le-of-eq (ap (λ (z : ℕ). z * m) (one-mul (den f)) ∙ mul-comm (den f) m))))
 

@@ -1,3 +1,4 @@
 pub mod FloorLaws
 pub mod IndexLaws
 pub mod SampleLaws
+pub mod MagnitudeLaws

@@ -10,8 +10,10 @@ ghost use mathlib.Core.Path.{_≡_};
 ghost use Prim.Native.Nat.{_+_, _*_, _<_, _≤_};
 ghost use lib.Ieee.{Float};
 ghost use lib.ListN.{length, drop};
+ghost use Rattle.util.specs.Fixed.{fix1-19-12};
 ghost use Rattle.util.specs.Within.{Under};
-ghost use Rattle.curve.specs.Curve.{index, spotOf, mix, mixCol, mixMat, sampleAt, numberOf, scalarCurve, numberWidth, InsideList, Inside};
+ghost use Rattle.curve.specs.Curve.{countedFrom, index, mix, mixCol, mixMat, sampleAt, numberBytes, numberOf, recorded};
+ghost use Rattle.curve.specs.CurveCode.{spotAt, formatMeans, listMeans, scalarCurve, InsideList, Inside, recordMeans};
 ghost use Rattle.curve.specs.Curve as spec;
 
 // How the first number of a value is stored.
@@ -21,7 +23,8 @@ pub enum Number {
     Fix1_10_5,
 }
 
-// A list of values: its frames, where it stands, how many values it has, and the bytes of each.
+// A list of values: its frames, where it stands, how many values it has, and the bytes of each. Its record has the same fields; there the
+// place counts from the section's start.
 pub struct SampleList {
     pub start: u16,
     pub end: u16,
@@ -30,10 +33,18 @@ pub struct SampleList {
     pub size: usize,
 }
 
+// A constant is where its number stands.
 pub enum ScalarCurve {
     None,
-    Constant(f64),
+    Constant(usize),
     Samples(SampleList, Number),
+}
+
+// The record of a curve.
+pub enum ScalarRecord {
+    None,
+    Constant(f64),
+    List(SampleList),
 }
 
 // The whole number below x, from its bits.
@@ -79,7 +90,7 @@ pub struct Spot {
 // Where a frame falls among n values.
 pub fn locate(start: u16, end: u16, frame: u16, n: u64) -> Spot
     requires { ⌜ (start < frame) × (frame + 1 < end) × (1 ≤ n) × (n ≤ 65536) ⌝ }
-    ensures { λ r. ⌜ (r ≡ spotOf (index start end frame n)) × (r .lo ≤ r .hi) × (r .hi < n) ⌝ }
+    ensures { λ r. ⌜ (r ≡ spotAt (index start end frame n)) × (r .lo ≤ r .hi) × (r .hi < n) ⌝ }
 {
     let a = frame as u64 - start as u64;
     let b = end as u64 - 1 - start as u64;
@@ -120,8 +131,8 @@ pub fn lerp_mat(lo: Mat3, hi: Mat3, g: f64) -> Mat3
 
 // The number of value k of a list that stands at `place`.
 fn value(s: &[u8], place: usize, size: usize, number: Number, k: usize) -> f64
-    requires { ⌜ place + size * k + numberWidth number ≤ length (now s) ⌝ }
-    ensures { λ r. ⌜ r ≡ numberOf number (drop (place + size * k) (now (s .entry))) ⌝ }
+    requires { ⌜ place + size * k + numberBytes (formatMeans number) ≤ length (now s) ⌝ }
+    ensures { λ r. ⌜ r ≡ numberOf (formatMeans number) (drop (place + size * k) (now (s .entry))) ⌝ }
 {
     let at = place + size * k;
     match number {
@@ -148,6 +159,14 @@ fn sample_list(s: &[u8], l: SampleList, number: Number, frame: u16) -> f64
     lerp(lo, hi, p.g)
 }
 
+// A constant's number.
+fn constant(s: &[u8], place: usize) -> f64
+    requires { ⌜ place + 4 ≤ length (now s) ⌝ }
+    ensures { λ r. ⌜ r ≡ numberOf fix1-19-12 (drop place (now (s .entry))) ⌝ }
+{
+    Fix1_19_12::read(word32(s, place))
+}
+
 // A curve at a frame: `default` where it has no value.
 pub fn sample_scalar(s: &[u8], curve: ScalarCurve, default: f64, frame: u16) -> f64
     requires { ⌜ Inside (now s) curve ⌝ }
@@ -155,12 +174,34 @@ pub fn sample_scalar(s: &[u8], curve: ScalarCurve, default: f64, frame: u16) -> 
 {
     match curve {
         ScalarCurve::None => default,
-        ScalarCurve::Constant(v) => v,
+        ScalarCurve::Constant(place) => constant(s, place),
         ScalarCurve::Samples(l, number) => {
             if l.length == 0 {
                 return default;
             }
             sample_list(s, l, number, frame)
         }
+    }
+}
+
+// A list's record, in an entry that stands at `entry`.
+pub fn record_list(l: SampleList, entry: usize) -> SampleList
+    requires { ⌜ entry + l .place < 18446744073709551616 ⌝ }
+    ensures { λ r. ⌜ (listMeans r ≡ countedFrom entry (listMeans l)) × (r .length ≡ l .length) ⌝ }
+{
+    let mut r = l;
+    r.place = entry + l.place;
+    r
+}
+
+// A curve's record, in an entry that stands at `entry`: the slice is the section from there on.
+pub fn record_scalar(s: &[u8], c: ScalarCurve, entry: usize) -> ScalarRecord
+    requires { ⌜ Inside (now s) c × (entry + length (now s) < 18446744073709551616) ⌝ }
+    ensures { λ r. ⌜ recordMeans r ≡ recorded entry (scalarCurve (now (s .entry)) c) ⌝ }
+{
+    match c {
+        ScalarCurve::None => ScalarRecord::None,
+        ScalarCurve::Constant(place) => ScalarRecord::Constant(constant(s, place)),
+        ScalarCurve::Samples(l, _) => ScalarRecord::List(record_list(l, entry)),
     }
 }

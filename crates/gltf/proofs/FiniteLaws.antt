@@ -5,7 +5,9 @@ use lib.Ieee.{Float}
 use Rattle.util.proofs.All.{Each}
 use Rattle.animation.specs.Animation.{Axes}
 use Rattle.matrix.specs.Finite.{Finite}
-use Rattle.nitro.proofs.FiniteLaws.{Small, below-finite, SizedAxes, axes-sized}
+use Rattle.util.proofs.BelowLaws.{Small}
+use Rattle.matrix.proofs.MagnitudeLaws.{below-finite}
+use Rattle.animation.proofs.FiniteLaws.{SizedAxes, axes-sized}
 use Rattle.gltf.specs.Curve.{framesOf, axesDomain, sampleAxes, resampleVec3}
 
 -- for a default of 0 or 1, below-zero or below-one is its p

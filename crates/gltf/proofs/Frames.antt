@@ -10,9 +10,8 @@ use borrow.Author.Tests.{ltb-true, ltb-false, lt-ltb, le-ltb}
 use lib.Dec.{ltb, lit<}
 use lib.ListN.{length}
 use Rattle.util.proofs.Cut.{le-or-lt}
-use Rattle.gltf.specs.declared.CurveDomain.{CurveDomain}
-use Rattle.gltf.specs.declared.CurveDomain.the-variants.{None, Sampled}
-use Rattle.gltf.specs.Curve.{union, framesFrom, framesOf, Stepped}
+use Rattle.gltf.specs.Curve.{Domain, noDomain, over, union, framesFrom, framesOf}
+use Rattle.gltf.specs.CurveCode.{Stepped}
 
 -- the distance to the end over the rate, rounded up
 abbrev pub count : ℕ → ℕ → ℕ → ℕ
@@ -87,34 +86,34 @@ module _ (f end rate : ℕ) where
 -- ---- of a domain
 
 -- how many, and that they are few
-abbrev pub Counts : CurveDomain → ℕ → Type 0
+abbrev pub Counts : Domain → ℕ → Type 0
 Counts d n = (n ≡ length (framesOf d)) × (n < 65536)
 
-pub no-frames : (d : CurveDomain) → d ≡ None → Counts d 0
+pub no-frames : (d : Domain) → d ≡ noDomain → Counts d 0
 unfolding framesOf
 no-frames d e = (rw e refl, lit< tt)
 
-pub frames-count : (d : CurveDomain) (start end rate : ℕ) → d ≡ Sampled start end rate → Stepped d → end < 65536 → Counts d (count start end rate)
+pub frames-count : (d : Domain) (start end rate : ℕ) → d ≡ over start end rate → Stepped d → end < 65536 → Counts d (count start end rate)
 unfolding framesOf
 frames-count d start end rate e h l =
-    let k : Stepped (Sampled start end rate) = subst Stepped e h in
+    let k : Stepped (over start end rate) = subst Stepped e h in
     let n = frames-length (end - start) start end rate (k .1) (omega arith) in
     let m = few-frames (end - start) start end rate in
     (rw e (sym n), omega arith)
 
-pub frames-as : (d : CurveDomain) (start end rate : ℕ) → d ≡ Sampled start end rate → framesOf d ≡ onward start end rate
+pub frames-as : (d : Domain) (start end rate : ℕ) → d ≡ over start end rate → framesOf d ≡ onward start end rate
 unfolding framesOf
 frames-as d start end rate e = rw e refl
 
-pub stepped : (d : CurveDomain) (start end rate : ℕ) → d ≡ Sampled start end rate → Stepped d → (start < end) × (1 ≤ rate)
+pub stepped : (d : Domain) (start end rate : ℕ) → d ≡ over start end rate → Stepped d → (start < end) × (1 ≤ rate)
 stepped d start end rate e h = subst Stepped e h
 
 -- ---- the union of two
 
-pub union-one : (a b : CurveDomain) (s e r : ℕ) → a ≡ Sampled s e r → b ≡ None → Sampled s e r ≡ union a b
+pub union-one : (a b : Domain) (s e r : ℕ) → a ≡ over s e r → b ≡ noDomain → over s e r ≡ union a b
 unfolding union
 union-one a b s e r p q = rw (p, q) refl
 
-pub union-two : (a b : CurveDomain) (s e r s₁ e₁ r₁ s₂ e₂ r₂ : ℕ) → a ≡ Sampled s₁ e₁ r₁ → b ≡ Sampled s₂ e₂ r₂ → s ≡ min s₁ s₂ → e ≡ max e₁ e₂ → r ≡ min r₁ r₂ → Sampled s e r ≡ union a b
+pub union-two : (a b : Domain) (s e r s₁ e₁ r₁ s₂ e₂ r₂ : ℕ) → a ≡ over s₁ e₁ r₁ → b ≡ over s₂ e₂ r₂ → s ≡ min s₁ s₂ → e ≡ max e₁ e₂ → r ≡ min r₁ r₂ → over s e r ≡ union a b
 unfolding union
 union-two a b s e r s₁ e₁ r₁ s₂ e₂ r₂ p q x y z = rw (p, q, x, y, z) refl

@@ -1,7 +1,7 @@
 -- Domains of curves as they stand in a section, and their values written into a slice. Assumes nothing.
-use Prim.Native.Nat.{ℕ, zero, suc, _+_, _-_, _*_, _/_, _≤_, _<_}
+use Prim.Native.Nat.{ℕ, suc, _+_, _-_, _*_, _/_, _≤_, _<_}
 use mathlib.Core.Bool.{Bool, true, false, _||_}
-use mathlib.Core.List.{List, _++_}
+use mathlib.Core.List.{List, [], _∷_, _++_}
 use mathlib.Core.Path.{_≡_, refl, sym, ap, subst, _∙_}
 use native.Mathlib.Nat.{le-div-iff-mul-le}
 use native.Mathlib.Omega.{arith}
@@ -10,30 +10,30 @@ use lib.Dec.{eqb, lit≤, lit<}
 use lib.Ieee.{Float}
 use lib.ListN.{length, set, take, drop}
 use lib.Seq.{sets}
-use Rattle.util.specs.View.{view}
-use Rattle.util.proofs.ViewLaws.{view-length}
+use Rattle.util.specs.Reader.{answered}
 use Rattle.util.proofs.WritesLaws.{sets-lent}
 use Rattle.matrix.specs.declared.Col3.{Col3}
 use Rattle.curve.specs.declared.Number.{Number}
 use Rattle.curve.specs.declared.SampleList.{SampleList}
 use Rattle.curve.specs.declared.ScalarCurve.{ScalarCurve}
 use Rattle.curve.specs.declared.ScalarCurve.the-variants.{Samples}
-use Rattle.curve.specs.Curve.{Curve, constant, samples, numberOf, scalarCurve, InsideList}
+use Rattle.curve.specs.Curve.{ListRecord, Curve, constant, samples}
+use Rattle.curve.specs.CurveCode.{scalarCurve, listMeans, valuesIn, InsideList}
+use Rattle.curve.proofs.SampleLaws.{value-count}
 use Rattle.animation.specs.Animation.{Axes, axesAt}
-use Rattle.gltf.specs.declared.CurveDomain.{CurveDomain}
-use Rattle.gltf.specs.declared.CurveDomain.the-variants.{None, Sampled}
 use Rattle.gltf.specs.declared.Resampling.{Resampling}
 use Rattle.gltf.specs.declared.Resampling.the-variants.{Frames, Nothing, Refused}
-use Rattle.gltf.specs.Curve.{domain, isEmpty, union, framesOf, Stepped, axesDomain, anyEmpty, sampleAxes, resampleVec3, spanOf, resample, resamplingIs, resamplingOf, sliceOf}
+use Rattle.gltf.specs.Curve.{Domain, noDomain, over, domain, isEmpty, union, framesOf, axesDomain, anyEmpty, sampleAxes, resampleVec3, spanOf, resample, sliceOf}
+use Rattle.gltf.specs.CurveCode.{Stepped, resamplingMeans}
 use Rattle.gltf.proofs.Frames.{onward, next-frame, no-frame}
 
 -- ---- empty lists
 
--- a list is empty if its count is 0
-pub count-empty : {A : Type 0} (start end place size n : ℕ) (read : List ℕ → A) (bs : List ℕ) → eqb n 0 ≡ isEmpty (samples start end place size (view size read n bs))
-unfolding isEmpty view
-count-empty start end place size zero read bs = refl
-count-empty start end place size (suc n) read bs = ne-eqb (suc n) 0 (λ (e : suc n ≡ 0). omega arith)
+-- a list is empty if its length is 0
+pub count-empty : {A : Type 0} (r : ListRecord) (vs : List A) (n : ℕ) → length vs ≡ n → eqb n 0 ≡ isEmpty (samples r vs)
+unfolding isEmpty
+count-empty r [] n e = rw (← e) refl
+count-empty r (v ∷ vs) n e = ne-eqb n 0 (λ (k : n ≡ 0). omega arith)
 
 -- two tests in a row
 pub or-first : (x y j : Bool) → x ≡ true → j ≡ true → j ≡ (x || y)
@@ -54,41 +54,44 @@ none-empty a e = neither _ _ _ e
 -- ---- domains
 
 -- the domain of a curve, whose frames can be stepped through
-abbrev pub DomainIs : Curve Float → CurveDomain → Type 0
-DomainIs c r = (r ≡ domain c) × Stepped r
+abbrev pub DomainIs : Curve Float → Domain → Type 0
+DomainIs c d = (d ≡ domain c) × Stepped d
 
 -- of a curve whose variant is known
 module _ (s : List ℕ) (c known : ScalarCurve) (q : c ≡ known) where
-  pub domain-as : (r : CurveDomain) → DomainIs (scalarCurve s known) r → DomainIs (scalarCurve s c) r
-  domain-as r h = rw q h
+  pub domain-as : (d : Domain) → DomainIs (scalarCurve s known) d → DomainIs (scalarCurve s c) d
+  domain-as d h = rw q h
 
-pub constant-domain : (v : Float) (r : CurveDomain) → r ≡ Sampled 0 1 1 → DomainIs (constant v) r
+pub constant-domain : (v : Float) (d : Domain) → d ≡ over 0 1 1 → DomainIs (constant v) d
 unfolding domain
-constant-domain v r e = (e, subst Stepped (sym e) (lit< tt, lit≤ tt))
+constant-domain v d e = (e, subst Stepped (sym e) (lit< tt, lit≤ tt))
 
 pub list-counts : (s : List ℕ) (c : ScalarCurve) (l : SampleList) (number : Number) → c ≡ Samples l number → isEmpty (scalarCurve s c) ≡ false → 1 ≤ l .length
 list-counts s c l number q e =
-    let k = eqb-false (l .length) 0 (count-empty (l .start) (l .end) (l .place) (l .size) (l .length) (numberOf number) (drop (l .place) s) ∙ rw q at e) in
+    let k = eqb-false (l .length) 0 (count-empty (listMeans l) (valuesIn s l number) (l .length) (value-count s l number) ∙ rw q at e) in
     omega arith
 
-pub list-domain : (s : List ℕ) (l : SampleList) (number : Number) → InsideList s l number → 1 ≤ l .length
-    → (r : CurveDomain) → r ≡ Sampled (l .start) (l .end) ((l .end - l .start) / l .length) → DomainIs (scalarCurve s (Samples l number)) r
+values-domain : {A : Type 0} (r : ListRecord) (vs : List A) (n : ℕ) → length vs ≡ n → 1 ≤ n → over (r .start) (r .end) ((r .end - r .start) / n) ≡ domain (samples r vs)
 unfolding domain
-list-domain s l number i h r e =
-    let n = view-length (l .size) (numberOf number) (l .length) (drop (l .place) s) in
+values-domain r [] n e h = absurd (omega arith)
+values-domain r (v ∷ vs) n e h = ap (λ (k : ℕ). over (r .start) (r .end) ((r .end - r .start) / k)) (sym e)
+
+pub list-domain : (s : List ℕ) (l : SampleList) (number : Number) → InsideList s l number → 1 ≤ l .length
+    → (d : Domain) → d ≡ over (l .start) (l .end) ((l .end - l .start) / l .length) → DomainIs (scalarCurve s (Samples l number)) d
+list-domain s l number i h d e =
     let k = i .frames in
     let q : 1 * l .length ≤ l .end - l .start = omega arith in
-    (rw n e, subst Stepped (sym e) (omega arith, le-div-iff-mul-le h .1 q))
+    (e ∙ values-domain (listMeans l) (valuesIn s l number) (l .length) (value-count s l number) h, subst Stepped (sym e) (omega arith, le-div-iff-mul-le h .1 q))
 
-union-stepped : (a b : CurveDomain) → Stepped a → Stepped b → Stepped (union a b)
+union-stepped : (a b : Domain) → Stepped a → Stepped b → Stepped (union a b)
 unfolding union
-union-stepped None b h k = k
-union-stepped (Sampled s e r) None h k = h
-union-stepped (Sampled s₁ e₁ r₁) (Sampled s₂ e₂ r₂) h k = (omega arith, omega arith)
+union-stepped noDomain b h k = k
+union-stepped (over s e r) noDomain h k = h
+union-stepped (over s₁ e₁ r₁) (over s₂ e₂ r₂) h k = (omega arith, omega arith)
 
-pub axes-domain-is : (a : Axes) (x y z xy r : CurveDomain) → DomainIs (a .x) x → DomainIs (a .y) y → DomainIs (a .z) z → xy ≡ union x y → r ≡ union xy z → (r ≡ axesDomain a) × Stepped r
+pub axes-domain-is : (a : Axes) (x y z xy d : Domain) → DomainIs (a .x) x → DomainIs (a .y) y → DomainIs (a .z) z → xy ≡ union x y → d ≡ union xy z → (d ≡ axesDomain a) × Stepped d
 unfolding axesDomain
-axes-domain-is a x y z xy r h k l e q = (cc, subst Stepped (sym (q ∙ ap (λ (d : CurveDomain). union d z) e)) (union-stepped (union x y) z (union-stepped x y (h .1) (k .1)) (l .1)))
+axes-domain-is a x y z xy d h k l e q = (cc, subst Stepped (sym (q ∙ ap (λ (w : Domain). union w z) e)) (union-stepped (union x y) z (union-stepped x y (h .1) (k .1)) (l .1)))
 
 -- ---- the values, written one frame after the other
 
@@ -115,29 +118,37 @@ write-frame default a l at f end rate v e h k =
 
 -- what the call answers, and what it leaves in the slice
 abbrev Leaves : Float → Axes → List Float → ℕ → Resampling → List Float → Type 0
-Leaves default a out place r after = (r ≡ resamplingOf (resample default a out place)) × (after ≡ sliceOf out (resample default a out place))
+Leaves default a out place r after = (resamplingMeans r after ≡ resample default a out place) × (after ≡ sliceOf out (resample default a out place))
+
+-- the answer for a domain, where it fits
+abbrev Answers : Domain → Resampling → Type 0
+Answers d r = (slice : List Float) → resamplingMeans r slice ≡ answered (record { over = spanOf d; frames = length (framesOf d); slice = slice })
 
 module _ (default : Float) (a : Axes) (out : List Float) (place : ℕ) where
   pub empty-list : anyEmpty a ≡ true → Leaves default a out place (Refused 10) out
   unfolding resample
   empty-list e = rw e (refl, refl)
 
-  module _ (e : anyEmpty a ≡ false) (d : CurveDomain) (q : d ≡ axesDomain a) where
+  module _ (e : anyEmpty a ≡ false) (d : Domain) (q : d ≡ axesDomain a) where
     pub too-small : length out < place + 3 * length (framesOf d) → Leaves default a out place (Refused 11) out
     unfolding resample
     too-small h = rw (e, ← q, lt-leb (place + 3 * length (framesOf d)) (length out) h) (refl, refl)
 
     -- `part` is what the callee left in the part of the slice that it was lent
     pub resampled : place + 3 * length (framesOf d) ≤ length out → (part : List Float) → part ≡ sets (take (length out - place) (drop place out)) 0 (sampleAxes default a (framesOf d))
-        → (r : Resampling) → r ≡ resamplingIs (spanOf d) (length (framesOf d)) → Leaves default a out place r (take place out ++ (part ++ drop (length out - place) (drop place out)))
+        → (r : Resampling) → Answers d r → Leaves default a out place r (take place out ++ (part ++ drop (length out - place) (drop place out)))
     unfolding resample resampleVec3
     resampled h part w r k =
         let l : place ≤ length out = omega arith in
-        rw (e, ← q, le-leb (place + 3 * length (framesOf d)) (length out) h) (k, sets-lent place out part (sampleAxes default a (framesOf d)) l w)
+        let m = sets-lent place out part (sampleAxes default a (framesOf d)) l w in
+        rw (e, ← q, le-leb (place + 3 * length (framesOf d)) (length out) h)
+        (k _ ∙ ap (λ (slice : List Float). answered (record { over = spanOf d; frames = length (framesOf d); slice = slice })) m, m)
 
 -- how a domain is answered
-pub no-frames-answered : (d : CurveDomain) → d ≡ None → Nothing ≡ resamplingIs (spanOf d) (length (framesOf d))
-no-frames-answered d e = rw e refl
+module _ (d : Domain) where
+  pub no-frames-answered : d ≡ noDomain → Answers d Nothing
+  unfolding framesOf
+  no-frames-answered e slice = rw e refl
 
-pub frames-answered : (d : CurveDomain) (start end rate n : ℕ) → d ≡ Sampled start end rate → n ≡ length (framesOf d) → Frames start end n ≡ resamplingIs (spanOf d) (length (framesOf d))
-frames-answered d start end rate n e q = rw (← q, e) refl
+  pub frames-answered : (start end rate n : ℕ) → d ≡ over start end rate → n ≡ length (framesOf d) → Answers d (Frames start end n)
+  frames-answered start end rate n e q slice = rw (← q, e) refl

@@ -1,5 +1,5 @@
 -- Domains of curves, and three curves resampled onto the union of theirs. Assumes nothing.
-use Prim.Native.Nat.{ℕ, zero, suc, _+_, _-_, _*_, _/_, min, max, _≤_, _<_}
+use Prim.Native.Nat.{ℕ, zero, suc, _+_, _-_, _*_, _/_, min, max}
 use mathlib.Core.Bool.{Bool, true, false, not, _||_, cond}
 use mathlib.Core.List.{List, [], _∷_}
 use lib.Dec.{ltb, leb}
@@ -7,31 +7,34 @@ use lib.ListN.{length}
 use lib.Seq.{sets}
 use lib.Ieee.{Float}
 use Rattle.util.specs.Reader.{Verdict, answered, denied, given}
-use Rattle.gltf.specs.declared.CurveDomain.{CurveDomain}
-use Rattle.gltf.specs.declared.CurveDomain.the-variants.{None, Sampled}
-use Rattle.gltf.specs.declared.Resampling.{Resampling}
-use Rattle.gltf.specs.declared.Resampling.the-variants as resampling
 use Rattle.curve.specs.Curve.{Curve, none, constant, samples}
 use Rattle.animation.specs.Animation.{Axes, axesAt}
 
-module _ {A : Type 0} where
-  unfoldable pub domain : Curve A → CurveDomain
-  domain none = None
-  domain (constant v) = Sampled 0 1 1
-  domain (samples start end place size values) = Sampled start end ((end - start) / length values)
+-- the frames from start, with `rate` frames from one to the next, below end
+pub data Domain : Type 0 where
+  noDomain : Domain
+  over : (start end rate : ℕ) → Domain
 
-  -- a list without values has no domain
+module _ {A : Type 0} where
+  -- a constant is a single value at frame 0; a list without values has no domain
+  unfoldable pub domain : Curve A → Domain
+  domain none = noDomain
+  domain (constant v) = over 0 1 1
+  domain (samples l []) = noDomain
+  domain (samples l (v ∷ vs)) = over (l .start) (l .end) ((l .end - l .start) / length (v ∷ vs))
+
+  -- a list without values
   unfoldable pub isEmpty : Curve A → Bool
   isEmpty none = false
   isEmpty (constant v) = false
-  isEmpty (samples start end place size []) = true
-  isEmpty (samples start end place size (v ∷ vs)) = false
+  isEmpty (samples l []) = true
+  isEmpty (samples l (v ∷ vs)) = false
 
--- over the curves that exist: least start, greatest end, least rate
-unfoldable pub union : CurveDomain → CurveDomain → CurveDomain
-union None d = d
-union (Sampled s e r) None = Sampled s e r
-union (Sampled s₁ e₁ r₁) (Sampled s₂ e₂ r₂) = Sampled (min s₁ s₂) (max e₁ e₂) (min r₁ r₂)
+-- of the domains that exist: least start, greatest end, least rate
+unfoldable pub union : Domain → Domain → Domain
+union noDomain d = d
+union (over s e r) noDomain = over s e r
+union (over s₁ e₁ r₁) (over s₂ e₂ r₂) = over (min s₁ s₂) (max e₁ e₂) (min r₁ r₂)
 
 -- f, f + rate, ... below end: at most `steps` of them, which is no bound if there are that many frames from f to end
 unfoldable pub framesFrom : ℕ → ℕ → ℕ → ℕ → List ℕ
@@ -40,18 +43,13 @@ framesFrom (suc steps) f end rate =
     let later = framesFrom steps (f + rate) end rate in
     cond (ltb f end) (f ∷ later) []
 
-unfoldable pub framesOf : CurveDomain → List ℕ
-framesOf None = []
-framesOf (Sampled start end rate) = framesFrom (end - start) start end rate
-
--- a domain whose frames can be stepped through
-abbrev pub Stepped : CurveDomain → Type 0
-Stepped None = Unit {0}
-Stepped (Sampled start end rate) = (start < end) × (1 ≤ rate)
+unfoldable pub framesOf : Domain → List ℕ
+framesOf noDomain = []
+framesOf (over start end rate) = framesFrom (end - start) start end rate
 
 -- ---- resample_vec3
 
-unfoldable pub axesDomain : Axes → CurveDomain
+unfoldable pub axesDomain : Axes → Domain
 axesDomain a = union (union (domain (a .x)) (domain (a .y))) (domain (a .z))
 
 unfoldable pub anyEmpty : Axes → Bool
@@ -78,9 +76,9 @@ pub record Resampled : Type 0 where
   pub frames : ℕ
   pub slice : List Float
 
-abbrev pub spanOf : CurveDomain → Span
-spanOf None = noSpan
-spanOf (Sampled start end rate) = span start end
+abbrev pub spanOf : Domain → Span
+spanOf noDomain = noSpan
+spanOf (over start end rate) = span start end
 
 -- 10 for an empty list among the three curves, then 11 if place + 3 times the frames exceeds the slice; then three floats per
 -- frame from the place on, all other elements as they were
@@ -90,16 +88,7 @@ resample default a out place =
     (given (leb (place + 3 * length (framesOf (axesDomain a))) (length out)) 11
     (answered (record { over = spanOf (axesDomain a); frames = length (framesOf (axesDomain a)); slice = sets out place (resampleVec3 default a) })))
 
--- what the code answers
-abbrev pub resamplingIs : Span → ℕ → Resampling
-resamplingIs noSpan frames = Resampling.Nothing
-resamplingIs (span start end) frames = Resampling.Frames start end frames
-
-abbrev pub resamplingOf : Verdict Resampled → Resampling
-resamplingOf (answered r) = resamplingIs (r .over) (r .frames)
-resamplingOf (denied n) = Resampling.Refused n
-
--- and what it leaves in the slice
+-- what is left in the slice `out`: as it was, where the call refuses
 abbrev pub sliceOf : List Float → Verdict Resampled → List Float
 sliceOf out (answered r) = r .slice
 sliceOf out (denied n) = out

@@ -1,1 +1,2 @@
 pub mod Curve
+pub mod CurveCode

@@ -8,9 +8,10 @@ ghost use mathlib.Core.List.{List};
 ghost use Prim.Native.Nat.{ℕ, _-_, _*_, _/_, _<_, _≤_, min, max};
 ghost use lib.ListN.{length};
 ghost use lib.Seq.{sets};
-ghost use Rattle.curve.specs.Curve.{Inside, scalarCurve};
+ghost use Rattle.curve.specs.CurveCode.{Inside, scalarCurve};
 ghost use Rattle.animation.specs.AnimationCode.{axisCurves, InsideAxes};
-ghost use Rattle.gltf.specs.Curve.{framesOf, Stepped, isEmpty, anyEmpty, axesDomain, framesFrom, sampleAxes, resamplingOf, sliceOf};
+ghost use Rattle.gltf.specs.Curve.{over, isEmpty, anyEmpty, axesDomain, framesFrom, framesOf, sampleAxes, sliceOf};
+ghost use Rattle.gltf.specs.CurveCode.{domainMeans, Stepped, resamplingMeans};
 ghost use Rattle.gltf.specs.Curve as spec;
 
 pub enum CurveDomain {
@@ -25,7 +26,7 @@ pub enum CurveDomain {
 impl CurveDomain {
     // The domain of a constant: a single value at frame 0.
     pub fn constant() -> Self
-        ensures { λ r. ⌜ r ≡ CurveDomain.Sampled 0 1 1 ⌝ }
+        ensures { λ r. ⌜ domainMeans r ≡ over 0 1 1 ⌝ }
     {
         CurveDomain::Sampled {
             start_frame: 0,
@@ -37,7 +38,7 @@ impl CurveDomain {
     // The domain of a list of n values.
     pub fn samples(start: u16, end: u16, n: u16) -> Self
         requires { ⌜ (start < end) × (1 ≤ n) ⌝ }
-        ensures { λ r. ⌜ r ≡ CurveDomain.Sampled start end ((end - start) / n) ⌝ }
+        ensures { λ r. ⌜ domainMeans r ≡ over start end ((end - start) / n) ⌝ }
     {
         CurveDomain::Sampled {
             start_frame: start,
@@ -47,7 +48,7 @@ impl CurveDomain {
     }
 
     pub fn union(self, other: CurveDomain) -> Self
-        ensures { λ r. ⌜ r ≡ spec.union self other ⌝ }
+        ensures { λ r. ⌜ domainMeans r ≡ spec.union (domainMeans self) (domainMeans other) ⌝ }
     {
         match self {
             CurveDomain::None => other,
@@ -72,8 +73,8 @@ impl CurveDomain {
 
     // How many frames there are: start, start + rate, .. below end.
     pub fn num_frames(self) -> usize
-        requires { ⌜ Stepped self ⌝ }
-        ensures { λ r. ⌜ (r ≡ length (framesOf self)) × (r < 65536) ⌝ }
+        requires { ⌜ Stepped (domainMeans self) ⌝ }
+        ensures { λ r. ⌜ (r ≡ length (framesOf (domainMeans self))) × (r < 65536) ⌝ }
     {
         match self {
             CurveDomain::None => 0,
@@ -127,7 +128,7 @@ fn any_empty(a: AxisCurves) -> bool
 // The domain of a curve that is no empty list.
 fn domain(s: &[u8], c: ScalarCurve) -> CurveDomain
     requires { ⌜ Inside (now s) c × (isEmpty (scalarCurve (now s) c) ≡ false) ⌝ }
-    ensures { λ r. ⌜ (r ≡ spec.domain (scalarCurve (now (s .entry)) c)) × Stepped r ⌝ }
+    ensures { λ r. ⌜ (domainMeans r ≡ spec.domain (scalarCurve (now (s .entry)) c)) × Stepped (domainMeans r) ⌝ }
 {
     match c {
         ScalarCurve::None => CurveDomain::None,
@@ -139,7 +140,7 @@ fn domain(s: &[u8], c: ScalarCurve) -> CurveDomain
 // The union of the domains of three curves, none of them an empty list.
 fn axes_domain(s: &[u8], a: AxisCurves) -> CurveDomain
     requires { ⌜ InsideAxes (now s) a × (anyEmpty (axisCurves (now s) a) ≡ false) ⌝ }
-    ensures { λ r. ⌜ (r ≡ axesDomain (axisCurves (now (s .entry)) a)) × Stepped r ⌝ }
+    ensures { λ r. ⌜ (domainMeans r ≡ axesDomain (axisCurves (now (s .entry)) a)) × Stepped (domainMeans r) ⌝ }
 {
     let x = a.x;
     let y = a.y;
@@ -178,8 +179,8 @@ fn resample_frames(
 
 // Three curves at the frames of d, three floats for each frame, from the start of `out` on.
 fn resample_vec3(s: &[u8], a: AxisCurves, default: f64, d: CurveDomain, out: &mut [f64])
-    requires { ⌜ InsideAxes (now s) a × Stepped d × (3 * length (framesOf d) ≤ length (now out)) ⌝ }
-    ensures { λ _. ⌜ now (out .exit) ≡ sets (now (out .entry)) 0 (sampleAxes default (axisCurves (now (s .entry)) a) (framesOf d)) ⌝ }
+    requires { ⌜ InsideAxes (now s) a × Stepped (domainMeans d) × (3 * length (framesOf (domainMeans d)) ≤ length (now out)) ⌝ }
+    ensures { λ _. ⌜ now (out .exit) ≡ sets (now (out .entry)) 0 (sampleAxes default (axisCurves (now (s .entry)) a) (framesOf (domainMeans d))) ⌝ }
 {
     match d {
         CurveDomain::None => {}
@@ -205,7 +206,7 @@ pub enum Resampling {
 // Three curves resampled into a lent slice, from a place onward.
 pub fn resample(s: &[u8], a: AxisCurves, default: f64, out: &mut [f64], place: usize) -> Resampling
     requires { ⌜ InsideAxes (now s) a ⌝ }
-    ensures { λ r. ⌜ (r ≡ resamplingOf (spec.resample default (axisCurves (now (s .entry)) a) (now (out .entry)) place)) × (now (out .exit) ≡ sliceOf (now (out .entry)) (spec.resample default (axisCurves (now (s .entry)) a) (now (out .entry)) place)) ⌝ }
+    ensures { λ r. ⌜ (resamplingMeans r (now (out .exit)) ≡ spec.resample default (axisCurves (now (s .entry)) a) (now (out .entry)) place) × (now (out .exit) ≡ sliceOf (now (out .entry)) (spec.resample default (axisCurves (now (s .entry)) a) (now (out .entry)) place)) ⌝ }
 {
     if any_empty(a) {
         return Resampling::Refused(10);

@@ -1,63 +1,54 @@
 -- The info block's run, by what the section holds. Assumes nothing.
-use Prim.Native.Nat.{ℕ, _+_, _*_, _≤_, _<_}
+use Prim.Native.Nat.{ℕ, _+_, _*_, max, _≤_, _<_}
 use mathlib.Core.List.{List}
-use mathlib.Core.Path.{_≡_, refl, subst}
+use mathlib.Core.Path.{_≡_, refl}
 use native.Mathlib.Nat.{mul-le-mul}
 use native.Mathlib.Omega.{arith}
 use borrow.Author.Tests.{eq-eqb, ne-eqb}
 use lib.ListN.{length, drop}
 use Rattle.util.specs.View.{wordAt}
 use Rattle.util.specs.Reader.{accepted, refused, run, bind, unless}
-use Rattle.util.proofs.Cut.{part-reach, had, past, short, over, max-right, to}
+use Rattle.util.proofs.Cut.{had, past, short, over, to}
 use Rattle.util.proofs.ViewLaws.{view-take}
 use Rattle.info_block.specs.declared.InfoBlock.{InfoBlock}
-use Rattle.info_block.specs.declared.BlockRead.{BlockRead}
-use Rattle.info_block.specs.InfoBlock.{Block, infoBlock, blockAt, BlockIs}
+use Rattle.info_block.specs.InfoBlock.{infoBlock}
+use Rattle.info_block.specs.InfoBlockCode.{blockAt}
 
 -- a product of what is at most 64 and a byte
 pub few : (a b : ℕ) → a ≤ 64 → b ≤ 255 → a * b ≤ 64 * 255
 few a b h l = mul-le-mul h l
 
-module _ (p size : ℕ) (s : List ℕ) where
-  -- what a read says, once its variant is known
-  pub read-as : (r r' : BlockRead) → BlockIs s p size r → r ≡ r' → BlockIs s p size r'
-  read-as r r' b q = subst (BlockIs s p size) q b
-
-  -- a block that is read ends after it begins
-  pub block-ends : (m : ℕ) (b : Block) → run (infoBlock p size) s 0 ≡ accepted m b → p + 1 ≤ m
-  unfolding bind infoBlock
-  block-ends m b e = part-reach p 1 _ s 0 m b e
-
+module _ (p size : ℕ) (s : List ℕ) (reach : ℕ) where
   -- where the lists stand, for a count
   abbrev pub placed : ℕ → InfoBlock
   placed c = record { count = c; datums = p + 12 + 4 * c + 4; names = p + 12 + 4 * c + 4 + size * c; end = p + 12 + 4 * c + 4 + size * c + 16 * c }
 
-  pub header-short : length s < p + 12 → run (infoBlock p size) s 0 ≡ refused 2
+  pub header-short : length s < p + 12 → run (infoBlock p size) s reach ≡ refused 2
   unfolding run bind infoBlock
   header-short h = past _ _ _ (past _ _ _ (past _ _ _ (past _ _ _ (past _ _ _ (short _ _ _ (omega arith))))))
 
   module _ (c : ℕ) (e : wordAt 1 s (p + 1) ≡ c) where
-    pub lists-short : length s < placed c .end → run (infoBlock p size) s 0 ≡ refused 2
+    pub lists-short : length s < placed c .end → run (infoBlock p size) s reach ≡ refused 2
     unfolding run bind infoBlock
     lists-short h =
         rw e
         (past _ _ _ (past _ _ _ (past _ _ _ (past _ _ _ (past _ _ _ (past _ _ _ (past _ _ _ (past _ _ _ (past _ _ _ (past _ _ _ (short _ _ _ (omega arith))))))))))))
 
     module _ (h : placed c .end ≤ length s) where
-      pub not-zero : (wordAt 1 s p ≡ 0 → ⊥) → run (infoBlock p size) s 0 ≡ refused 3
+      pub not-zero : (wordAt 1 s p ≡ 0 → ⊥) → run (infoBlock p size) s reach ≡ refused 3
       unfolding run bind infoBlock unless
       not-zero d =
           rw (e, ne-eqb (wordAt 1 s p) 0 d)
           (had _ _ _ _ (omega arith) (had _ _ _ _ (omega arith) (had _ _ _ _ (omega arith) (had _ _ _ _ (omega arith) (had _ _ _ _ (omega arith) (had _ _ _ _ (omega arith) (had _ _ _ _ (omega arith) (had _ _ _ _ (omega arith) (had _ _ _ _ (omega arith) (had _ _ _ _ (omega arith) (had _ _ _ _ (omega arith) refl)))))))))))
 
-      pub wrong-size : wordAt 1 s p ≡ 0 → (wordAt 2 s (p + 12 + 4 * c) ≡ size → ⊥) → run (infoBlock p size) s 0 ≡ refused 4
+      pub wrong-size : wordAt 1 s p ≡ 0 → (wordAt 2 s (p + 12 + 4 * c) ≡ size → ⊥) → run (infoBlock p size) s reach ≡ refused 4
       unfolding run bind infoBlock unless
       wrong-size z d =
           rw (e, eq-eqb (wordAt 1 s p) 0 z, ne-eqb (wordAt 2 s (p + 12 + 4 * c)) size d)
           (had _ _ _ _ (omega arith) (had _ _ _ _ (omega arith) (had _ _ _ _ (omega arith) (had _ _ _ _ (omega arith) (had _ _ _ _ (omega arith) (had _ _ _ _ (omega arith) (had _ _ _ _ (omega arith) (had _ _ _ _ (omega arith) (had _ _ _ _ (omega arith) (had _ _ _ _ (omega arith) (had _ _ _ _ (omega arith) refl)))))))))))
 
-      pub whole : wordAt 1 s p ≡ 0 → wordAt 2 s (p + 12 + 4 * c) ≡ size → run (infoBlock p size) s 0 ≡ accepted (placed c .end) (blockAt s size (placed c))
+      pub whole : wordAt 1 s p ≡ 0 → wordAt 2 s (p + 12 + 4 * c) ≡ size → run (infoBlock p size) s reach ≡ accepted (max reach (placed c .end)) (blockAt s size (placed c))
       unfolding run bind infoBlock unless
       whole z d =
           rw (e, eq-eqb (wordAt 1 s p) 0 z, eq-eqb (wordAt 2 s (p + 12 + 4 * c)) size d, view-take size (λ bs. bs) c (drop (placed c .datums) s), view-take 16 (λ bs. bs) c (drop (placed c .names) s))
-          (had _ _ _ _ (omega arith) (had _ _ _ _ (omega arith) (had _ _ _ _ (omega arith) (had _ _ _ _ (omega arith) (had _ _ _ _ (omega arith) (had _ _ _ _ (omega arith) (had _ _ _ _ (omega arith) (had _ _ _ _ (omega arith) (had _ _ _ _ (omega arith) (had _ _ _ _ (omega arith) (had _ _ _ _ (omega arith) (to _ _ _ (over _ _ _ (omega arith) (over _ _ _ (omega arith) (over _ _ _ (omega arith) (over _ _ _ (omega arith) (over _ _ _ (omega arith) (over _ _ _ (omega arith) (over _ _ _ (omega arith) (over _ _ _ (omega arith) (over _ _ _ (omega arith) (over _ _ _ (omega arith) (max-right _ _ (omega arith))))))))))))))))))))))))
+          (had _ _ _ _ (omega arith) (had _ _ _ _ (omega arith) (had _ _ _ _ (omega arith) (had _ _ _ _ (omega arith) (had _ _ _ _ (omega arith) (had _ _ _ _ (omega arith) (had _ _ _ _ (omega arith) (had _ _ _ _ (omega arith) (had _ _ _ _ (omega arith) (had _ _ _ _ (omega arith) (had _ _ _ _ (omega arith) (to _ _ _ (over _ _ _ _ (omega arith) (over _ _ _ _ (omega arith) (over _ _ _ _ (omega arith) (over _ _ _ _ (omega arith) (over _ _ _ _ (omega arith) (over _ _ _ _ (omega arith) (over _ _ _ _ (omega arith) (over _ _ _ _ (omega arith) (over _ _ _ _ (omega arith) (over _ _ _ _ (omega arith) refl))))))))))))))))))))))

@@ -1,1 +1,3 @@
 pub mod InfoBlockLaws
+pub mod NameLaws
+pub mod BytesLaws

@@ -1,14 +1,8 @@
 -- The info block: a list of datums of one size, each with a name. Assumes nothing.
-use Prim.Native.Nat.{ℕ, _+_, _*_, _≤_, _<_}
+use Prim.Native.Nat.{ℕ, _+_, _*_}
 use mathlib.Core.List.{List}
-use mathlib.Core.Path.{_≡_}
 use lib.Dec.{eqb}
-use lib.ListN.{length, drop}
-use Rattle.util.specs.View.{view}
-use Rattle.util.specs.Reader.{Reader, done, _>>=_, _>>_, bytes, word, list, unless, accepted, refused, run}
-use Rattle.info_block.specs.declared.InfoBlock.{InfoBlock}
-use Rattle.info_block.specs.declared.BlockRead.{BlockRead}
-use Rattle.info_block.specs.declared.BlockRead.the-variants.{Whole, Refused}
+use Rattle.util.specs.Reader.{Reader, done, _>>=_, _>>_, bytes, word, list, unless}
 use Rattle.info_block.specs.Name.{Name}
 
 pub record Block : Type 0 where
@@ -34,20 +28,3 @@ infoBlock p size = do
   unless (eqb zero-byte 0) 3
   unless (eqb datum-size size) 4
   done (record { count = count; datums = datums; names = names })
-
--- ---- what code answers: positions in the section
-
--- the block whose datums and names stand at these positions
-abbrev pub blockAt : List ℕ → ℕ → InfoBlock → Block
-blockAt s size b = record { count = b .count; datums = view size (λ bs. bs) (b .count) (drop (b .datums) s); names = view 16 (λ bs. bs) (b .count) (drop (b .names) s) }
-
-pub record WholeBlock (s : List ℕ) (p size : ℕ) (b : InfoBlock) : Type 0 where
-  pub reads : run (infoBlock p size) s 0 ≡ accepted (b .end) (blockAt s size b)
-  pub few : b .count < 256
-  pub datums-end : b .datums + size * b .count ≤ b .names
-  pub names-end : b .names + 16 * b .count ≤ b .end
-  pub inside : b .end ≤ length s
-
-abbrev pub BlockIs : List ℕ → ℕ → ℕ → BlockRead → Type 0
-BlockIs s p size (Whole b) = WholeBlock s p size b
-BlockIs s p size (Refused n) = run (infoBlock p size) s 0 ≡ refused n

@@ -1,2 +1,4 @@
 pub mod Name
+pub mod NameCode
 pub mod InfoBlock
+pub mod InfoBlockCode

@@ -2,6 +2,9 @@
 use Prim.Native.Nat.{ℕ, suc}
 use mathlib.Core.Bool.{Bool, cond}
 use mathlib.Core.List.{List, [], _∷_}
+use lib.Dec.{ltb}
+use lib.ListN.{length, getD}
+use Rattle.util.specs.Reader.{Verdict, answered, given}
 use Rattle.util.specs.View.{same}
 
 abbrev pub Name : Type 0
@@ -15,3 +18,7 @@ equal a b = same 16 a b
 unfoldable pub named : Name → ℕ → List Name → List ℕ
 named name i [] = []
 named name i (x ∷ xs) = cond (equal name x) (i ∷ named name (suc i) xs) (named name (suc i) xs)
+
+-- name i of some names; 9 past the list
+abbrev pub nameAmong : List Name → ℕ → Verdict Name
+nameAmong names i = given (ltb i (length names)) 9 (answered (getD names i []))

@@ -1,8 +1,10 @@
 // The info block: a list of datums, each with a name.
+pub mod name;
+
 use util::view::byte;
 use util::view::word16;
-ghost use Prim.Native.Nat.{_≤_};
-ghost use Rattle.info_block.specs.InfoBlock.{BlockIs};
+ghost use Prim.Native.Nat.{ℕ, _≤_};
+ghost use Rattle.info_block.specs.InfoBlockCode.{BlockReads};
 
 // Where the datums and the names stand, how many there are, and where the block ends.
 pub struct InfoBlock {
@@ -20,7 +22,7 @@ pub enum BlockRead {
 // The info block at p, with datums of `size` bytes.
 pub fn read(s: &[u8], p: usize, size: usize) -> BlockRead
     requires { ⌜ (p ≤ 64) × (size ≤ 64) ⌝ }
-    ensures { λ r. ⌜ BlockIs (now (s .entry)) p size r ⌝ }
+    ensures { λ r. ⌜ ((reach : ℕ) → BlockReads (now (s .entry)) p size reach r) ⌝ }
 {
     let n = s.len();
     if n < p + 12 {

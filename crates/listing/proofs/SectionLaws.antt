@@ -11,38 +11,32 @@ use lib.Seq.{take-suc, take-all, length-take-le}
 use Rattle.util.specs.View.{view}
 use Rattle.util.specs.Reader.{Outcome, accepted, refused, run, done}
 use Rattle.util.proofs.Calls.{after, run-bind-as}
+use Rattle.util.proofs.ReadsLaws.{goes-on, stops}
 use Rattle.util.proofs.ViewLaws.{view-length, view-there}
 use Rattle.info_block.specs.declared.InfoBlock.{InfoBlock}
-use Rattle.info_block.specs.InfoBlock.{blockAt}
+use Rattle.info_block.specs.declared.BlockRead.{BlockRead}
 use Rattle.info_block.specs.Name.{Name}
-use Rattle.nitro.specs.declared.entry.EntryCheck.{EntryCheck}
 use Rattle.nitro.specs.Container.{Kind, allKinds, stamped, section, EntryRecord}
-use Rattle.nitro.specs.ContainerCode.{WholeHeader}
-use Rattle.nitro.specs.EntryCode.{checkOf}
+use Rattle.nitro.specs.ContainerCode.{HeaderReads}
 use Rattle.motion.specs.Calls.{check, answer}
-use Rattle.motion.specs.Listing.{decimal, hex, line, outcomeLines, entryLines, header, sectionLines, listing}
-use Rattle.listing.specs.Writes.{Wrote}
-use Rattle.listing.specs.Section.{checkLines, blockOutcome, headerFrom}
+use Rattle.listing.specs.Listing.{decimal, hex, line, outcomeLines, entryLines, entriesFrom, header, sectionLines, listing}
+use Rattle.listing.specs.Writes.{Wrote, entryRoom}
+use Rattle.listing.specs.SectionCode.{blockOutcome, headerFrom}
 use Rattle.listing.proofs.WritesLaws.{both, same}
 
 -- ---- an entry
 
-check-lines : (k : Kind) (o : Outcome EntryRecord) → checkLines k (checkOf o) ≡ outcomeLines k o
-unfolding outcomeLines
-check-lines k (accepted m e) = refl
-check-lines k (refused n) = refl
-
-pub one-entry : (k : Kind) (s : List ℕ) (i : ℕ) (name : Name) (found : EntryCheck) → found ≡ checkOf (answer (check i) s)
-    → line "entry" (decimal i) ++ line "name" (hex name) ++ checkLines k found ≡ entryLines k s i (name ∷ [])
+pub one-entry : (k : Kind) (s : List ℕ) (i : ℕ) (name : Name) (o : Outcome EntryRecord) → o ≡ answer (check i) s
+    → line "entry" (decimal i) ++ line "name" (hex name) ++ outcomeLines k o ≡ entryLines k s i name
 unfolding entryLines
-one-entry k s i name found e = ap (λ (t : List ℕ). line "entry" (decimal i) ++ line "name" (hex name) ++ t) (ap (checkLines k) e ∙ check-lines k (answer (check i) s)) ∙ sym (append-nil _)
+one-entry k s i name o e = ap (λ (x : Outcome EntryRecord). line "entry" (decimal i) ++ line "name" (hex name) ++ outcomeLines k x) e
 
 -- ---- the entries, one after the other
 
-entries-append : (k : Kind) (s : List ℕ) (i : ℕ) (x y : List Name) → entryLines k s i (x ++ y) ≡ entryLines k s i x ++ entryLines k s (i + length x) y
-unfolding entryLines
-entries-append k s i [] y = rw (add-zero i) refl
-entries-append k s i (name ∷ x) y = rw (entries-append k s (suc i) x y, add-suc i (length x), suc-add i (length x)) (simp append-assoc)
+entries-snoc : (k : Kind) (s : List ℕ) (i : ℕ) (x : List Name) (name : Name) → entriesFrom k s i (x ++ (name ∷ [])) ≡ entriesFrom k s i x ++ entryLines k s (i + length x) name
+unfolding entriesFrom
+entries-snoc k s i [] name = rw (add-zero i) (append-nil _)
+entries-snoc k s i (n ∷ x) name = rw (entries-snoc k s (suc i) x name, add-suc i (length x), suc-add i (length x)) (simp append-assoc)
 
 module _ (k : Kind) (s : List ℕ) (p count : ℕ) where
   abbrev names : List Name
@@ -54,32 +48,32 @@ module _ (k : Kind) (s : List ℕ) (p count : ℕ) where
   abbrev nameAt : ℕ → Name
   nameAt i = take 16 (drop (p + 16 * i) s)
 
-  one-more : (i : ℕ) → i < count → entryLines k s 0 (take (i + 1) names) ≡ entryLines k s 0 (take i names) ++ entryLines k s i (nameAt i ∷ [])
+  one-more : (i : ℕ) → i < count → entriesFrom k s 0 (take (i + 1) names) ≡ entriesFrom k s 0 (take i names) ++ entryLines k s i (nameAt i)
   one-more i h =
       let n = names-length in
       let e : 0 + length (take i names) ≡ i = zero-add _ ∙ length-take-le i names (omega arith) in
       let f : getD names i [] ≡ nameAt i = view-there 16 (λ bs. bs) count i p s [] h in
-      rw (add-one, take-suc names i [] (omega arith), entries-append, e, f) refl
+      rw (add-one, take-suc names i [] (omega arith), entries-snoc, e, f) refl
 
   pub entries-more : {l m r : List ℕ} {at mid end : ℕ} (i : ℕ) → i < count
-      → Wrote l m at mid (176 * i) (entryLines k s 0 (take i names)) → Wrote m r mid end 176 (entryLines k s i (nameAt i ∷ []))
-      → Wrote l r at end (176 * (i + 1)) (entryLines k s 0 (take (i + 1) names))
+      → Wrote l m at mid (entryRoom * i) (entriesFrom k s 0 (take i names)) → Wrote m r mid end entryRoom (entryLines k s i (nameAt i))
+      → Wrote l r at end (entryRoom * (i + 1)) (entriesFrom k s 0 (take (i + 1) names))
   entries-more i h v w = same (sym (one-more i h)) (omega arith) (both v w)
 
   pub all-entries : {l r : List ℕ} {at end : ℕ} (i : ℕ) → i ≤ count → count ≤ i
-      → Wrote l r at end (176 * i) (entryLines k s 0 (take i names)) → Wrote l r at end (176 * count) (entryLines k s 0 names)
-  all-entries i h g w = let n = names-length in same (ap (entryLines k s 0) (take-all i names (omega arith))) (omega arith) w
+      → Wrote l r at end (entryRoom * i) (entriesFrom k s 0 (take i names)) → Wrote l r at end (entryRoom * count) (entriesFrom k s 0 names)
+  all-entries i h g w = let n = names-length in same (ap (entriesFrom k s 0) (take-all i names (omega arith))) (omega arith) w
 
 -- ---- a section with a stamp
 
 module _ (s : List ℕ) (k : Kind) where
   pub block-refused : (n : ℕ) → run section s 4 ≡ refused n → line "answer" (decimal n) ≡ sectionLines s (run (headerFrom k) s 4)
-  unfolding sectionLines after
-  block-refused n e = sym (ap (sectionLines s) (run-bind-as section (λ b. done (record { kind = k; block = b })) s 4 (refused n) e))
+  unfolding sectionLines
+  block-refused n e = sym (ap (sectionLines s) (stops _ _ _ _ n e))
 
-  pub block-whole : (b : InfoBlock) → WholeHeader s b → sectionLines s (blockOutcome s k b) ≡ sectionLines s (run (headerFrom k) s 4)
-  unfolding run after
-  block-whole b w = sym (ap (sectionLines s) (run-bind-as section (λ b. done (record { kind = k; block = b })) s 4 (accepted (b .end) (blockAt s 4 b)) (w .reads)))
+  pub block-whole : (b : InfoBlock) → HeaderReads s (BlockRead.Whole b) → sectionLines s (blockOutcome s k b) ≡ sectionLines s (run (headerFrom k) s 4)
+  unfolding run sectionLines
+  block-whole b w = sym (ap (sectionLines s) (goes-on section (λ b. done (record { kind = k; block = b })) s 4 _ _ (w .reads)))
 
 -- ---- the listing
 

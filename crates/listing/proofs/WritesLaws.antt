@@ -8,15 +8,15 @@ use native.Mathlib.Omega.{arith}
 use borrow.Author.Tests.{lt-ltb, le-ltb}
 use lib.ListN.{length, take, drop, getD, length-append, length-drop}
 use lib.Seq.{sets, take-suc, getD-drop}
-use Rattle.util.proofs.WritesLaws.{sets-append}
-use Rattle.motion.specs.Listing.{digit, decimalIn, hexDigit, hex}
+use Rattle.util.proofs.WritesLaws.{sets-after}
+use Rattle.listing.specs.Listing.{digit, digits, places, hexDigit, hex}
 use Rattle.listing.specs.Writes.{Wrote}
 
 -- two texts, the second where the first ended
 pub both : {l m r : List ℕ} {at mid end p q : ℕ} {x y : List ℕ} → Wrote l m at mid p x → Wrote m r mid end q y → Wrote l r at end (p + q) (x ++ y)
 both {l} {m} {r} {at} {mid} {end} {p} {q} {x} {y} v w =
     record {
-      bytes = w .bytes ∙ (ap (λ (k : List ℕ). sets k mid y) (v .bytes) ∙ (ap (λ (k : ℕ). sets (sets l at x) k y) (v .next) ∙ sets-append l at x y));
+      bytes = w .bytes ∙ (ap (λ (k : List ℕ). sets k mid y) (v .bytes) ∙ sets-after l at mid x y (sym (v .next)));
       next = let e = length-append x y in let f = v .next in let g = w .next in omega arith;
       near = let f = v .near in let g = w .near in omega arith;
     }
@@ -52,19 +52,28 @@ hex-pair b high low e f = rw (e, f) refl
 
 -- ---- a number's digits, the last one last
 
-pub no-digits : {l : List ℕ} {at : ℕ} (most n : ℕ) → most ≡ 0 → Wrote l l at at most (decimalIn most n)
-unfolding decimalIn
+pub no-digits : {l : List ℕ} {at : ℕ} (width n : ℕ) → width ≡ 0 → Wrote l l at at width (digits width n)
+unfolding digits
 no-digits zero n e = nothing
-no-digits (suc most) n e = absurd (omega arith)
+no-digits (suc width) n e = absurd (omega arith)
 
-module _ {l r : List ℕ} {at end : ℕ} where
-  pub one-digit : (most n : ℕ) → (most ≡ 0 → ⊥) → n < 10 → Wrote l r at end 1 (digit n ∷ []) → Wrote l r at end most (decimalIn most n)
-  unfolding decimalIn
-  one-digit zero n f h w = absurd (f refl)
-  one-digit (suc most) n f h w = rw (lt-ltb n 10 h) (same refl (omega arith) w)
+pub more-digits : {l m r : List ℕ} {at mid end : ℕ} (width n : ℕ) → (width ≡ 0 → ⊥)
+    → Wrote l m at mid (width - 1) (digits (width - 1) (n / 10)) → Wrote m r mid end 1 (digit n ∷ []) → Wrote l r at end width (digits width n)
+unfolding digits
+more-digits zero n f v w = absurd (f refl)
+more-digits (suc width) n f v w = same refl (omega arith) (both (rw (sub-one (suc width)) at v) w)
 
-  pub more-digits : {m : List ℕ} {mid : ℕ} (most n : ℕ) → (most ≡ 0 → ⊥) → 10 ≤ n
-      → Wrote l m at mid (most - 1) (decimalIn (most - 1) (n / 10)) → Wrote m r mid end 1 (digit n ∷ []) → Wrote l r at end most (decimalIn most n)
-  unfolding decimalIn
-  more-digits zero n f h v w = absurd (f refl)
-  more-digits (suc most) n f h v w = rw (le-ltb n 10 h) (same refl (omega arith) (both (rw (sub-one (suc most)) at v) w))
+-- ---- how many there are, when i are counted and n is what stands in front of them
+
+module _ (most i n : ℕ) where
+  pub no-place : most ≤ i → places (most - i) n ≡ 0
+  unfolding places
+  no-place h = let e : most - i ≡ 0 = omega arith in rw e refl
+
+  pub last-place : i < most → n < 10 → places (most - i) n ≡ 1
+  unfolding places
+  last-place h g = let e : most - i ≡ suc (most - (i + 1)) = omega arith in rw (e, lt-ltb n 10 g) refl
+
+  pub more-places : i < most → 10 ≤ n → places (most - i) n ≡ suc (places (most - (i + 1)) (n / 10))
+  unfolding places
+  more-places h g = let e : most - i ≡ suc (most - (i + 1)) = omega arith in rw (e, le-ltb n 10 g) refl

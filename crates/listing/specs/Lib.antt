@@ -1,2 +1,3 @@
+pub mod Listing
 pub mod Writes
-pub mod Section
+pub mod SectionCode

@@ -1,11 +1,11 @@
--- Text that code has written into a lent slice. Assumes nothing.
-use Prim.Native.Nat.{ℕ, _+_, _≤_}
+-- Text that code has written into a lent array, and the room for it. Assumes nothing.
+use Prim.Native.Nat.{ℕ, _+_, _*_, _≤_}
 use mathlib.Core.List.{List, [], _∷_, _++_}
 use mathlib.Core.Path.{_≡_}
 use lib.ListN.{length}
 use lib.Seq.{sets}
 
--- a slice before and after some text, of at most `most` bytes, was written into it from `at` up to `end`
+-- bytes before and after some text, of at most `most` bytes, was written over them from `at` up to `end`
 pub record Wrote (before after : List ℕ) (at end most : ℕ) (text : List ℕ) : Type 0 where
   pub bytes : after ≡ sets before at text
   pub next : end ≡ at + length text
@@ -14,3 +14,21 @@ pub record Wrote (before after : List ℕ) (at end most : ℕ) (text : List ℕ)
 -- a line, from its key with the sign after it and its value
 abbrev pub keyed : List ℕ → List ℕ → List ℕ
 keyed key value = key ++ value ++ (10 ∷ [])
+
+-- ---- the room that text takes
+
+-- no line is longer: a name has its key, its sign, 32 digits and the line's end
+abbrev pub lineRoom : ℕ
+lineRoom = 38
+
+-- the answer, the reach, the frames, the objects or tracks
+abbrev pub recordRoom : ℕ
+recordRoom = 4 * lineRoom
+
+-- the index, the name, and the record
+abbrev pub entryRoom : ℕ
+entryRoom = 2 * lineRoom + recordRoom
+
+-- room for every listing
+abbrev pub room : ℕ
+room = 65536

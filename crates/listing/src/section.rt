@@ -1,9 +1,10 @@
 // The listing of a section: its kind, how many entries it has, and the lines of each entry.
+use crate::ROOM;
 use crate::text::put_answer;
 use crate::text::put_decimal_line;
+use crate::text::put_digits_line;
 use crate::text::put_hex_line;
 use crate::text::put_text;
-use crate::text::put_two_digits_line;
 use info_block::BlockRead;
 use info_block::InfoBlock;
 use motion::check;
@@ -12,55 +13,48 @@ use nitro::container::StampRead;
 use nitro::container::read_section;
 use nitro::container::read_stamp;
 use nitro::entry::EntryCheck;
-use nitro::entry::EntryRecord;
-ghost use mathlib.Core.List.{[], _∷_};
 ghost use Prim.Native.Nat.{_+_, _*_, _<_, _≤_};
 ghost use lib.ListN.{length, take, drop};
 ghost use Rattle.util.specs.View.{view};
 ghost use Rattle.util.specs.Reader.{run};
 ghost use Rattle.nitro.specs.ContainerCode.{kindMeans};
-ghost use Rattle.motion.specs.Listing.{ascii, line, stampText, countLine, entryLines, sectionLines, listing};
-ghost use Rattle.listing.specs.Writes.{Wrote};
-ghost use Rattle.listing.specs.Section.{recordLines, checkLines, blockOutcome, headerFrom};
+ghost use Rattle.nitro.specs.EntryCode.{checkMeans};
+ghost use Rattle.listing.specs.Listing.{ascii, line, stampText, countLine, entryLines, entriesFrom, sectionLines, listing, outcomeLines};
+ghost use Rattle.listing.specs.Writes.{Wrote, lineRoom, recordRoom, entryRoom, room};
+ghost use Rattle.listing.specs.SectionCode.{blockOutcome, headerFrom};
 
 // How many objects or tracks an entry has.
-fn put_count(out: &mut [u8], at: usize, kind: Kind, n: usize) -> usize
-    requires { ⌜ at + 28 ≤ length (now out) ⌝ }
-    ensures { λ r. ⌜ Wrote (now (out .entry)) (now (out .exit)) at r 28 (countLine (kindMeans kind) n) ⌝ }
+fn put_count(out: &mut [u8; ROOM], at: usize, kind: Kind, n: usize) -> usize
+    requires { ⌜ at + lineRoom ≤ room ⌝ }
+    ensures { λ r. ⌜ Wrote (now (out .entry)) (now (out .exit)) at r lineRoom (countLine (kindMeans kind) n) ⌝ }
 {
     match kind {
-        Kind::Jnt => put_two_digits_line(out, at, b"objects=", n),
+        Kind::Jnt => put_digits_line(out, at, b"objects=", n, 2),
         Kind::Srt => put_decimal_line(out, at, b"tracks=", n),
         Kind::Pat => put_decimal_line(out, at, b"tracks=", n),
     }
 }
 
-// The lines of an accepted entry.
-fn put_record(out: &mut [u8], at: usize, kind: Kind, e: EntryRecord) -> usize
-    requires { ⌜ at + 111 ≤ length (now out) ⌝ }
-    ensures { λ r. ⌜ Wrote (now (out .entry)) (now (out .exit)) at r 111 (recordLines (kindMeans kind) e) ⌝ }
-{
-    let reach = put_answer(out, at, 0);
-    let frames = put_decimal_line(out, reach, b"reach=", e.reach);
-    let count = put_decimal_line(out, frames, b"frames=", e.frames as usize);
-    put_count(out, count, kind, e.count)
-}
-
 // The answer's line; where the entry is accepted, the lines of its record after it.
-fn put_check(out: &mut [u8], at: usize, kind: Kind, found: EntryCheck) -> usize
-    requires { ⌜ at + 111 ≤ length (now out) ⌝ }
-    ensures { λ r. ⌜ Wrote (now (out .entry)) (now (out .exit)) at r 111 (checkLines (kindMeans kind) found) ⌝ }
+fn put_check(out: &mut [u8; ROOM], at: usize, kind: Kind, found: EntryCheck) -> usize
+    requires { ⌜ at + recordRoom ≤ room ⌝ }
+    ensures { λ r. ⌜ Wrote (now (out .entry)) (now (out .exit)) at r recordRoom (outcomeLines (kindMeans kind) (checkMeans found)) ⌝ }
 {
     match found {
         EntryCheck::Refused(n) => put_answer(out, at, n as usize),
-        EntryCheck::Whole(e) => put_record(out, at, kind, e),
+        EntryCheck::Whole(e) => {
+            let reach = put_answer(out, at, 0);
+            let frames = put_decimal_line(out, reach, b"reach=", e.reach);
+            let count = put_decimal_line(out, frames, b"frames=", e.frames as usize);
+            put_count(out, count, kind, e.count)
+        }
     }
 }
 
 // The lines of entry i, whose name stands at p.
-fn put_entry(s: &[u8], out: &mut [u8], at: usize, kind: Kind, i: usize, p: usize) -> usize
-    requires { ⌜ (at + 176 ≤ length (now out)) × (p + 16 ≤ length (now s)) ⌝ }
-    ensures { λ r. ⌜ Wrote (now (out .entry)) (now (out .exit)) at r 176 (entryLines (kindMeans kind) (now (s .entry)) i (take 16 (drop p (now (s .entry))) ∷ [])) ⌝ }
+fn put_entry(s: &[u8], out: &mut [u8; ROOM], at: usize, kind: Kind, i: usize, p: usize) -> usize
+    requires { ⌜ (at + entryRoom ≤ room) × (p + 16 ≤ length (now s)) ⌝ }
+    ensures { λ r. ⌜ Wrote (now (out .entry)) (now (out .exit)) at r entryRoom (entryLines (kindMeans kind) (now (s .entry)) i (take 16 (drop p (now (s .entry))))) ⌝ }
 {
     let name = put_decimal_line(out, at, b"entry=", i);
     let answer = put_hex_line(out, name, b"name=", s, p);
@@ -68,9 +62,16 @@ fn put_entry(s: &[u8], out: &mut [u8], at: usize, kind: Kind, i: usize, p: usize
 }
 
 // The lines of each entry; the names stand at `names`, one after the other.
-fn put_entries(s: &[u8], out: &mut [u8], at: usize, kind: Kind, names: usize, count: usize) -> usize
-    requires { ⌜ (at + 176 * count ≤ length (now out)) × (names + 16 * count ≤ length (now s)) ⌝ }
-    ensures { λ r. ⌜ Wrote (now (out .entry)) (now (out .exit)) at r (176 * count) (entryLines (kindMeans kind) (now (s .entry)) 0 (view 16 (λ bs. bs) count (drop names (now (s .entry))))) ⌝ }
+fn put_entries(
+    s: &[u8],
+    out: &mut [u8; ROOM],
+    at: usize,
+    kind: Kind,
+    names: usize,
+    count: usize,
+) -> usize
+    requires { ⌜ (at + entryRoom * count ≤ room) × (names + 16 * count ≤ length (now s)) ⌝ }
+    ensures { λ r. ⌜ Wrote (now (out .entry)) (now (out .exit)) at r (entryRoom * count) (entriesFrom (kindMeans kind) (now (s .entry)) 0 (view 16 (λ bs. bs) count (drop names (now (s .entry))))) ⌝ }
 {
     let mut next = at;
     for i in 0..count {
@@ -80,9 +81,9 @@ fn put_entries(s: &[u8], out: &mut [u8], at: usize, kind: Kind, names: usize, co
 }
 
 // The section's kind.
-fn put_stamp(out: &mut [u8], at: usize, kind: Kind) -> usize
-    requires { ⌜ at + 13 ≤ length (now out) ⌝ }
-    ensures { λ r. ⌜ Wrote (now (out .entry)) (now (out .exit)) at r 13 (line "section" (ascii (stampText (kindMeans kind)))) ⌝ }
+fn put_stamp(out: &mut [u8; ROOM], at: usize, kind: Kind) -> usize
+    requires { ⌜ at + lineRoom ≤ room ⌝ }
+    ensures { λ r. ⌜ Wrote (now (out .entry)) (now (out .exit)) at r lineRoom (line "section" (ascii (stampText (kindMeans kind)))) ⌝ }
 {
     match kind {
         Kind::Jnt => put_text(out, at, b"section=JNT0\n"),
@@ -91,10 +92,10 @@ fn put_stamp(out: &mut [u8], at: usize, kind: Kind) -> usize
     }
 }
 
-// A section with this info block: 13 bytes for its kind, 29 for the count, 176 for each of 255 entries at most.
-fn list_block(s: &[u8], out: &mut [u8], kind: Kind, b: InfoBlock) -> usize
-    requires { ⌜ (45000 ≤ length (now out)) × (b .count < 256) × (b .names + 16 * b .count ≤ length (now s)) ⌝ }
-    ensures { λ r. ⌜ Wrote (now (out .entry)) (now (out .exit)) 0 r 45000 (sectionLines (now (s .entry)) (blockOutcome (now (s .entry)) (kindMeans kind) b)) ⌝ }
+// A section with this info block: its kind, the count, and at most 255 entries.
+fn list_block(s: &[u8], out: &mut [u8; ROOM], kind: Kind, b: InfoBlock) -> usize
+    requires { ⌜ (b .count < 256) × (b .names + 16 * b .count ≤ length (now s)) ⌝ }
+    ensures { λ r. ⌜ Wrote (now (out .entry)) (now (out .exit)) 0 r room (sectionLines (now (s .entry)) (blockOutcome (now (s .entry)) (kindMeans kind) b)) ⌝ }
 {
     let entries = put_stamp(out, 0, kind);
     let first = put_decimal_line(out, entries, b"entries=", b.count);
@@ -102,9 +103,9 @@ fn list_block(s: &[u8], out: &mut [u8], kind: Kind, b: InfoBlock) -> usize
 }
 
 // A section with this kind's stamp.
-fn list_kind(s: &[u8], out: &mut [u8], kind: Kind) -> usize
-    requires { ⌜ (45000 ≤ length (now out)) × (4 ≤ length (now s)) ⌝ }
-    ensures { λ r. ⌜ Wrote (now (out .entry)) (now (out .exit)) 0 r 45000 (sectionLines (now (s .entry)) (run (headerFrom (kindMeans kind)) (now (s .entry)) 4)) ⌝ }
+fn list_kind(s: &[u8], out: &mut [u8; ROOM], kind: Kind) -> usize
+    requires { ⌜ 4 ≤ length (now s) ⌝ }
+    ensures { λ r. ⌜ Wrote (now (out .entry)) (now (out .exit)) 0 r room (sectionLines (now (s .entry)) (run (headerFrom (kindMeans kind)) (now (s .entry)) 4)) ⌝ }
 {
     match read_section(s) {
         BlockRead::Refused(n) => put_answer(out, 0, n as usize),
@@ -113,9 +114,8 @@ fn list_kind(s: &[u8], out: &mut [u8], kind: Kind) -> usize
 }
 
 // The listing, from the start of `out` on; answers its length.
-pub fn list_section(s: &[u8], out: &mut [u8]) -> usize
-    requires { ⌜ 45000 ≤ length (now out) ⌝ }
-    ensures { λ r. ⌜ Wrote (now (out .entry)) (now (out .exit)) 0 r 45000 (listing (now (s .entry))) ⌝ }
+pub fn list_section(s: &[u8], out: &mut [u8; ROOM]) -> usize
+    ensures { λ r. ⌜ Wrote (now (out .entry)) (now (out .exit)) 0 r room (listing (now (s .entry))) ⌝ }
 {
     if 65536 < s.len() {
         return put_answer(out, 0, 13);

@@ -1,14 +1,15 @@
-// Text, written into a lent slice from a position on; each function answers the next position.
+// Text, written into a lent array from a position on; each function answers the next position.
+use crate::ROOM;
 ghost use mathlib.Core.Path.{_≡_};
 ghost use mathlib.Core.List.{[], _∷_};
 ghost use Prim.Native.Nat.{_+_, _<_, _≤_};
 ghost use lib.ListN.{length, take, drop};
-ghost use Rattle.motion.specs.Listing.{digit, decimalIn, decimal, twoDigits, hexDigit, hex, line};
-ghost use Rattle.listing.specs.Writes.{Wrote, keyed};
+ghost use Rattle.listing.specs.Listing.{digit, digits, places, decimal, hexDigit, hex, line};
+ghost use Rattle.listing.specs.Writes.{Wrote, keyed, lineRoom, room};
 
 // One byte.
-pub fn put_byte(out: &mut [u8], at: usize, b: u8) -> usize
-    requires { ⌜ at + 1 ≤ length (now out) ⌝ }
+pub fn put_byte(out: &mut [u8; ROOM], at: usize, b: u8) -> usize
+    requires { ⌜ at + 1 ≤ room ⌝ }
     ensures { λ r. ⌜ Wrote (now (out .entry)) (now (out .exit)) at r 1 (b ∷ []) ⌝ }
 {
     out[at] = b;
@@ -16,8 +17,8 @@ pub fn put_byte(out: &mut [u8], at: usize, b: u8) -> usize
 }
 
 // All bytes of a text.
-pub fn put_text(out: &mut [u8], at: usize, text: &[u8]) -> usize
-    requires { ⌜ at + length (now text) ≤ length (now out) ⌝ }
+pub fn put_text(out: &mut [u8; ROOM], at: usize, text: &[u8]) -> usize
+    requires { ⌜ at + length (now text) ≤ room ⌝ }
     ensures { λ r. ⌜ Wrote (now (out .entry)) (now (out .exit)) at r (length (now (text .entry))) (now (text .entry)) ⌝ }
 {
     let mut next = at;
@@ -28,43 +29,37 @@ pub fn put_text(out: &mut [u8], at: usize, text: &[u8]) -> usize
 }
 
 // The last decimal digit of n.
-fn put_digit(out: &mut [u8], at: usize, n: usize) -> usize
-    requires { ⌜ at + 1 ≤ length (now out) ⌝ }
+fn put_digit(out: &mut [u8; ROOM], at: usize, n: usize) -> usize
+    requires { ⌜ at + 1 ≤ room ⌝ }
     ensures { λ r. ⌜ Wrote (now (out .entry)) (now (out .exit)) at r 1 (digit n ∷ []) ⌝ }
 {
     put_byte(out, at, (48 + n % 10) as u8)
 }
 
-// n in decimal, its last `most` digits.
-fn put_digits(out: &mut [u8], at: usize, n: usize, most: usize) -> usize
-    requires { ⌜ at + most ≤ length (now out) ⌝ }
-    ensures { λ r. ⌜ Wrote (now (out .entry)) (now (out .exit)) at r most (decimalIn most n) ⌝ }
+// The last `width` decimal digits of n, with leading zeros.
+fn put_digits(out: &mut [u8; ROOM], at: usize, n: usize, width: usize) -> usize
+    requires { ⌜ at + width ≤ room ⌝ }
+    ensures { λ r. ⌜ Wrote (now (out .entry)) (now (out .exit)) at r width (digits width n) ⌝ }
 {
-    if most == 0 {
+    if width == 0 {
         return at;
     }
-    if n < 10 {
-        return put_digit(out, at, n);
+    let next = put_digits(out, at, n / 10, width - 1);
+    put_digit(out, next, n)
+}
+
+// How many decimal digits n has. Twenty hold every number of 64 bits.
+fn width_of(n: usize) -> usize
+    ensures { λ r. ⌜ (r ≡ places 20 n) × (r ≤ 20) ⌝ }
+{
+    let mut front = n;
+    for i in 0..20usize {
+        if front < 10 {
+            return i + 1;
+        }
+        front = front / 10;
     }
-    let next = put_digits(out, at, n / 10, most - 1);
-    put_digit(out, next, n)
-}
-
-// n in decimal: twenty digits hold every number of 64 bits.
-pub fn put_decimal(out: &mut [u8], at: usize, n: usize) -> usize
-    requires { ⌜ at + 20 ≤ length (now out) ⌝ }
-    ensures { λ r. ⌜ Wrote (now (out .entry)) (now (out .exit)) at r 20 (decimal n) ⌝ }
-{
-    put_digits(out, at, n, 20)
-}
-
-// The last two decimal digits of n.
-pub fn put_two_digits(out: &mut [u8], at: usize, n: usize) -> usize
-    requires { ⌜ at + 2 ≤ length (now out) ⌝ }
-    ensures { λ r. ⌜ Wrote (now (out .entry)) (now (out .exit)) at r 2 (twoDigits n) ⌝ }
-{
-    let next = put_digit(out, at, n / 10);
-    put_digit(out, next, n)
+    20
 }
 
 // The hexadecimal digit, in lower case.
@@ -76,8 +71,8 @@ pub fn hex_digit(n: u8) -> u8
 }
 
 // A byte, as two hexadecimal digits.
-fn put_hex_byte(out: &mut [u8], at: usize, b: u8) -> usize
-    requires { ⌜ at + 2 ≤ length (now out) ⌝ }
+fn put_hex_byte(out: &mut [u8; ROOM], at: usize, b: u8) -> usize
+    requires { ⌜ at + 2 ≤ room ⌝ }
     ensures { λ r. ⌜ Wrote (now (out .entry)) (now (out .exit)) at r 2 (hex (b ∷ [])) ⌝ }
 {
     let next = put_byte(out, at, hex_digit(b / 16));
@@ -85,8 +80,8 @@ fn put_hex_byte(out: &mut [u8], at: usize, b: u8) -> usize
 }
 
 // The sixteen bytes of the name that stands at p.
-pub fn put_hex(out: &mut [u8], at: usize, s: &[u8], p: usize) -> usize
-    requires { ⌜ (at + 32 ≤ length (now out)) × (p + 16 ≤ length (now s)) ⌝ }
+pub fn put_hex(out: &mut [u8; ROOM], at: usize, s: &[u8], p: usize) -> usize
+    requires { ⌜ (at + 32 ≤ room) × (p + 16 ≤ length (now s)) ⌝ }
     ensures { λ r. ⌜ Wrote (now (out .entry)) (now (out .exit)) at r 32 (hex (take 16 (drop p (now (s .entry))))) ⌝ }
 {
     let mut next = at;
@@ -96,30 +91,28 @@ pub fn put_hex(out: &mut [u8], at: usize, s: &[u8], p: usize) -> usize
     next
 }
 
-// A line of a key, with the sign after it, and a number.
-pub fn put_decimal_line(out: &mut [u8], at: usize, key: &[u8], n: usize) -> usize
-    requires { ⌜ at + length (now key) + 21 ≤ length (now out) ⌝ }
-    ensures { λ r. ⌜ Wrote (now (out .entry)) (now (out .exit)) at r (length (now (key .entry)) + 21) (keyed (now (key .entry)) (decimal n)) ⌝ }
+// A line of a key, with the sign after it, and a number's last `width` digits.
+pub fn put_digits_line(out: &mut [u8; ROOM], at: usize, key: &[u8], n: usize, width: usize) -> usize
+    requires { ⌜ (length (now key) + width < lineRoom) × (at + lineRoom ≤ room) ⌝ }
+    ensures { λ r. ⌜ Wrote (now (out .entry)) (now (out .exit)) at r lineRoom (keyed (now (key .entry)) (digits width n)) ⌝ }
 {
     let value = put_text(out, at, key);
-    let end = put_decimal(out, value, n);
+    let end = put_digits(out, value, n, width);
     put_byte(out, end, b'\n')
 }
 
-// A line of a key and a number in two digits.
-pub fn put_two_digits_line(out: &mut [u8], at: usize, key: &[u8], n: usize) -> usize
-    requires { ⌜ at + length (now key) + 3 ≤ length (now out) ⌝ }
-    ensures { λ r. ⌜ Wrote (now (out .entry)) (now (out .exit)) at r (length (now (key .entry)) + 3) (keyed (now (key .entry)) (twoDigits n)) ⌝ }
+// A line of a key and a number.
+pub fn put_decimal_line(out: &mut [u8; ROOM], at: usize, key: &[u8], n: usize) -> usize
+    requires { ⌜ (length (now key) + 20 < lineRoom) × (at + lineRoom ≤ room) ⌝ }
+    ensures { λ r. ⌜ Wrote (now (out .entry)) (now (out .exit)) at r lineRoom (keyed (now (key .entry)) (decimal n)) ⌝ }
 {
-    let value = put_text(out, at, key);
-    let end = put_two_digits(out, value, n);
-    put_byte(out, end, b'\n')
+    put_digits_line(out, at, key, n, width_of(n))
 }
 
 // A line of a key and the name that stands at p.
-pub fn put_hex_line(out: &mut [u8], at: usize, key: &[u8], s: &[u8], p: usize) -> usize
-    requires { ⌜ (at + length (now key) + 33 ≤ length (now out)) × (p + 16 ≤ length (now s)) ⌝ }
-    ensures { λ r. ⌜ Wrote (now (out .entry)) (now (out .exit)) at r (length (now (key .entry)) + 33) (keyed (now (key .entry)) (hex (take 16 (drop p (now (s .entry)))))) ⌝ }
+pub fn put_hex_line(out: &mut [u8; ROOM], at: usize, key: &[u8], s: &[u8], p: usize) -> usize
+    requires { ⌜ (length (now key) + 32 < lineRoom) × (at + lineRoom ≤ room) × (p + 16 ≤ length (now s)) ⌝ }
+    ensures { λ r. ⌜ Wrote (now (out .entry)) (now (out .exit)) at r lineRoom (keyed (now (key .entry)) (hex (take 16 (drop p (now (s .entry)))))) ⌝ }
 {
     let value = put_text(out, at, key);
     let end = put_hex(out, value, s, p);
@@ -127,9 +120,9 @@ pub fn put_hex_line(out: &mut [u8], at: usize, key: &[u8], s: &[u8], p: usize) -
 }
 
 // The answer's line.
-pub fn put_answer(out: &mut [u8], at: usize, n: usize) -> usize
-    requires { ⌜ at + 28 ≤ length (now out) ⌝ }
-    ensures { λ r. ⌜ Wrote (now (out .entry)) (now (out .exit)) at r 28 (line "answer" (decimal n)) ⌝ }
+pub fn put_answer(out: &mut [u8; ROOM], at: usize, n: usize) -> usize
+    requires { ⌜ at + lineRoom ≤ room ⌝ }
+    ensures { λ r. ⌜ Wrote (now (out .entry)) (now (out .exit)) at r lineRoom (line "answer" (decimal n)) ⌝ }
 {
     put_decimal_line(out, at, b"answer=", n)
 }

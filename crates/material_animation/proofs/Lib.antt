@@ -1,1 +1,2 @@
 pub mod MaterialLaws
+pub mod FiniteLaws

@@ -1,1 +1,2 @@
 pub mod MaterialAnimation
+pub mod MaterialAnimationCode

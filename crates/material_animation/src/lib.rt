@@ -14,14 +14,16 @@ use util::view::word16;
 use util::view::word32;
 ghost use mathlib.Core.List.{List};
 ghost use mathlib.Core.Path.{_≡_};
-ghost use Prim.Native.Nat.{ℕ, _+_, _*_, _<_, _≤_};
-ghost use lib.ListN.{length, take, drop};
+ghost use Prim.Native.Nat.{_+_, _*_, _<_, _≤_};
+ghost use lib.ListN.{length, drop};
 ghost use lib.Ieee.{Float};
 ghost use Rattle.matrix.specs.Matrix.{f0};
-ghost use Rattle.util.specs.Reader.{accepted, run, each, reachOf};
+ghost use Rattle.util.specs.Reader.{run, each};
+ghost use Rattle.util.specs.ReaderCode.{reachOf};
 ghost use Rattle.util.specs.View.{view};
 ghost use Rattle.curve.specs.Curve.{Curve, mix, sampleAt};
-ghost use Rattle.material_animation.specs.MaterialAnimation.{channel, five, uvMatrixAt, channelMeans, ChannelInside, TrackIs, MaterialIs};
+ghost use Rattle.material_animation.specs.MaterialAnimation.{channels, uvMatrixAt};
+ghost use Rattle.material_animation.specs.MaterialAnimationCode.{trackAt, ChannelReads, ChannelGives, TrackIs, MaterialIs};
 
 // What is known of a whole entry: its frames, its tracks and its reach.
 pub struct MaterialAnimation {
@@ -44,7 +46,7 @@ pub enum ChannelRead {
 // Channel n of the track whose datum stands at `track`, after parts that reach as far as `reach`.
 pub fn read_channel(s: &[u8], track: usize, n: usize, reach: usize) -> ChannelRead
     requires { ⌜ (track + 40 ≤ length (now s)) × (n < 5) ⌝ }
-    ensures { λ r. ⌜ (run (channel (take 40 (drop track (now (s .entry)))) n) (now (s .entry)) reach ≡ channelMeans (now (s .entry)) r) × ChannelInside (now (s .entry)) r ⌝ }
+    ensures { λ r. ⌜ ChannelReads (now (s .entry)) track n reach r ⌝ }
 {
     if n < 3 {
         return ChannelRead::Whole(ScalarCurve::None, reach);
@@ -78,7 +80,7 @@ pub fn read_channel(s: &[u8], track: usize, n: usize, reach: usize) -> ChannelRe
 // How far the channels of a track reach: 3 and 4 alone can carry a list.
 fn follow_channels(s: &[u8], track: usize, reach: usize) -> Reach
     requires { ⌜ track + 40 ≤ length (now s) ⌝ }
-    ensures { λ r. ⌜ r ≡ reachOf (run (each (channel (take 40 (drop track (now (s .entry))))) five) (now (s .entry)) reach) ⌝ }
+    ensures { λ r. ⌜ r ≡ reachOf (run (channels (trackAt (now (s .entry)) track)) (now (s .entry)) reach) ⌝ }
 {
     match read_channel(s, track, 3, reach) {
         ChannelRead::Whole(_, far) => match read_channel(s, track, 4, far) {
@@ -92,7 +94,7 @@ fn follow_channels(s: &[u8], track: usize, reach: usize) -> Reach
 // How far the tracks reach whose datums stand at `datums`.
 fn follow_tracks(s: &[u8], datums: usize, count: usize, reach: usize) -> Reach
     requires { ⌜ datums + 40 * count ≤ length (now s) ⌝ }
-    ensures { λ r. ⌜ r ≡ reachOf (run (each (λ track. each (channel track) five) (view 40 (λ bs. bs) count (drop datums (now (s .entry))))) (now (s .entry)) reach) ⌝ }
+    ensures { λ r. ⌜ r ≡ reachOf (run (each channels (view 40 (λ bs. bs) count (drop datums (now (s .entry))))) (now (s .entry)) reach) ⌝ }
 {
     let mut far = reach;
     let mut i = 0usize;
@@ -130,7 +132,7 @@ pub fn read_mat_anim(s: &[u8]) -> MatAnimRead
 // Channel n of the track whose datum stands at `track`, at a frame: 0 where it has no value.
 fn sample_channel(s: &[u8], track: usize, n: usize, frame: u16) -> f64
     requires { ⌜ (track + 40 ≤ length (now s)) × (n < 5) ⌝ }
-    ensures { λ r. ⌜ ((m : ℕ) (curve : Curve Float) → run (channel (take 40 (drop track (now (s .entry)))) n) (now (s .entry)) 0 ≡ accepted m curve → r ≡ sampleAt mix f0 curve frame) ⌝ }
+    ensures { λ r. ⌜ ChannelGives (now (s .entry)) track n (λ curve. sampleAt mix f0 curve frame) r ⌝ }
 {
     match read_channel(s, track, n, 0) {
         ChannelRead::Whole(curve, _) => sample_scalar(s, curve, 0.0, frame),
@@ -141,7 +143,7 @@ fn sample_channel(s: &[u8], track: usize, n: usize, frame: u16) -> f64
 // A track's matrix at a frame: its channels 3 and 4 move the texture.
 pub fn eval_uv_mat(s: &[u8], track: usize, frame: u16) -> Mat4
     requires { ⌜ track + 40 ≤ length (now s) ⌝ }
-    ensures { λ r. ⌜ ((channels : List (Curve Float)) → TrackIs (now (s .entry)) track channels → r ≡ uvMatrixAt channels frame) ⌝ }
+    ensures { λ r. ⌜ ((curves : List (Curve Float)) → TrackIs (now (s .entry)) track curves → r ≡ uvMatrixAt curves frame) ⌝ }
 {
     let u = sample_channel(s, track, 3, frame);
     let v = sample_channel(s, track, 4, frame);

@@ -1,49 +1,38 @@
 -- What the calls on a PAT0 entry answer, from what is known of the entry. Assumes nothing.
-use Prim.Native.Nat.{ℕ, _+_, _*_, max, _≤_, _<_}
+use Prim.Native.Nat.{ℕ, _+_, _*_, _≤_, _<_}
 use mathlib.Core.List.{List, [], _∷_}
 use mathlib.Core.Path.{_≡_, refl, sym, ap, _∙_}
 use native.Mathlib.Nat.{add-assoc}
 use native.Mathlib.Omega.{arith}
 use borrow.Author.Tests.{lt-ltb, le-ltb}
-use lib.ListN.{length, take, drop, length-drop}
+use lib.ListN.{length, take, drop, getD, length-drop}
 use lib.Seq.{drop-drop}
 use Rattle.util.specs.View.{little, wordAt, view}
-use Rattle.util.specs.Reader.{refused, run, Verdict, answered, denied}
+use Rattle.util.specs.Reader.{Verdict, answered, denied, told}
 use Rattle.util.proofs.ViewLaws.{view-length}
+use Rattle.info_block.specs.Name.{Name, nameAmong}
+use Rattle.pattern.specs.declared.ItemList.{ItemList}
 use Rattle.pattern.specs.declared.Pattern.{Pattern}
-use Rattle.pattern.specs.Pattern.{Key, Track, keyOf, choice}
-use Rattle.pattern.proofs.PatternLaws.{datum-inside, keys-inside, track-of}
+use Rattle.pattern.specs.Pattern.{Key, Names, Track, keyOf, choice}
+use Rattle.pattern.specs.PatternCode.{ListedAt, WholePattern}
+use Rattle.pattern.proofs.PatternLaws.{track-count, datum-inside, keys-inside, track-of}
 use Rattle.nitro.specs.declared.container.EntryAt.{EntryAt}
-use Rattle.nitro.specs.declared.entry.NameAnswer.{NameAnswer}
-use Rattle.nitro.specs.Container.{pat, Entry, entryOf}
-use Rattle.nitro.specs.EntryCode.{nameAmong}
-use Rattle.nitro.proofs.EntryLaws.{pattern-count}
+use Rattle.nitro.specs.Container.{pat}
+use Rattle.nitro.specs.EntryCode.{Opened}
 use Rattle.motion.specs.declared.answers.ListAnswer.{ListAnswer}
-use Rattle.motion.specs.Calls.{Query, Chosen, chosenOf, textureNames, paletteNames, keys, chosen, patternName, ask, on, answer}
-use Rattle.motion.specs.Answers.{listOf, nameAnswerOf, choiceSays, choiceOf}
-use Rattle.motion.specs.Opened.{PatternAt}
-use Rattle.motion.specs.PatCode.{KeysAt, KeysRefused, KeysAre}
-use Rattle.motion.proofs.CallsLaws.{told, on-refused, on-held}
-use Rattle.motion.proofs.OpenedLaws.{names-end, name-told}
+use Rattle.motion.specs.Calls.{Query, Reply, PatternQuery, chosen, keys, noTrack, chosenOf, askPattern, ofPattern, patternName, textureNames, paletteNames, ask, on, answer}
+use Rattle.motion.specs.AnswersCode.{listAnswerMeans}
+use Rattle.motion.specs.PatCode.{KeysAt, KeysAre}
+use Rattle.motion.proofs.CallsLaws.{asked, names-end}
 
 -- a word of what stands from an offset onward
 word-onward : (n off q : ℕ) (s : List ℕ) → wordAt n (drop off s) q ≡ wordAt n s (off + q)
 word-onward n off q s = ap (λ (l : List ℕ). little (take n l)) (drop-drop q off s)
 
-choice-told : (m : ℕ) (v : Verdict Chosen) → choiceOf (told m v) ≡ choiceSays v
-unfolding told
-choice-told m (answered c) = refl
-choice-told m (denied n) = refl
-
--- ---- a track's keys
-
-module _ (s : List ℕ) (i t : ℕ) where
-  pub keys-refused : (n : ℕ) → run (entryOf pat i) s 0 ≡ refused n → KeysRefused s i t n
-  keys-refused n h = record { listed = ap listOf (sym (on-refused pat s i (keys t) n h)); choices = λ f. ap choiceOf (sym (on-refused pat s i (chosen t f) n h)) }
-
-  pub keys-listed : (r : ListAnswer) → KeysAre s i t r → r ≡ listOf (answer (on pat i (keys t)) s)
-  keys-listed (ListAnswer.List l) k = k .listed
-  keys-listed (ListAnswer.Refused n) k = k .listed
+-- a track's keys, by the answer's case
+pub keys-listed : (s : List ℕ) (i t : ℕ) (r : ListAnswer) → KeysAre s i t r → listAnswerMeans r ≡ told (answer (on pat i (ofPattern t keys)) s)
+keys-listed s i t (ListAnswer.List l) k = sym (k .listed)
+keys-listed s i t (ListAnswer.Refused n) k = sym (k keys)
 
 -- ---- the key that holds at a frame
 
@@ -63,56 +52,43 @@ chosen-some n bs frame k h e = first-chosen (view 4 keyOf n bs) frame k (rw (vie
 
 -- ---- an entry that is opened
 
-module _ (s : List ℕ) (i : ℕ) (e : EntryAt) (a : Pattern) (w : PatternAt s i e a) where
-  -- the entry as the specification has it
-  abbrev patternEntry : Entry pat
-  patternEntry = record { name = take 16 (drop (e .name) s); offset = e .offset; held = w .whole .held }
+module _ (s : List ℕ) (i : ℕ) (e : EntryAt) (a : Pattern) (w : Opened pat WholePattern s i e a) where
+  abbrev here : List ℕ
+  here = drop (e .offset) s
 
-  asked : (q : Query pat) → answer (on pat i q) s ≡ told (max (e .end) (e .offset + a .reach)) (ask q patternEntry)
-  asked q = on-held pat s i q e (w .stands) (a .reach) (w .whole .held) (w .whole .reads)
+  abbrev tracks : List Track
+  tracks = w .whole .held .tracks
+
+  said : (q : Query pat) → told (answer (on pat i q) s) ≡ ask q (record { name = take 16 (drop (e .name) s); offset = e .offset; held = w .whole .held })
+  said q = asked pat s i q e (w .stands) (a .reach) (w .whole .held) (w .whole .reads)
 
   -- the name lists stand in the section
   pub textures-end : e .offset + a .textures .place ≤ length s
-  textures-end =
-      let h = w .whole .textures-inside in
-      let o = w .stands .inside in
-      omega (arith, length-drop (e .offset) s)
+  textures-end = let h = w .whole .textures-inside in let o = w .stands .holds in omega (arith, length-drop (e .offset) s)
 
   pub palettes-end : e .offset + a .palettes .place ≤ length s
-  palettes-end =
-      let h = w .whole .palettes-inside in
-      let o = w .stands .inside in
-      omega (arith, length-drop (e .offset) s)
+  palettes-end = let h = w .whole .palettes-inside in let o = w .stands .holds in omega (arith, length-drop (e .offset) s)
 
-  pub textures-of : ListAnswer.List (record { place = e .offset + a .textures .place; length = a .textures .count }) ≡ listOf (answer (on pat i textureNames) s)
-  unfolding told ask
-  textures-of = sym (ap listOf (asked textureNames) ∙ (λ j. ListAnswer.List (record { place = e .offset + w .whole .textures j; length = w .whole .texture-count j })))
+  pub textures-of : answered (record { place = e .offset + a .textures .place; length = a .textures .count }) ≡ told (answer (on pat i textureNames) s)
+  unfolding ask
+  textures-of = sym (said textureNames ∙ ap (λ (n : Names). answered (record { place = e .offset + n .place; length = n .count })) (w .whole .textures))
 
-  pub palettes-of : ListAnswer.List (record { place = e .offset + a .palettes .place; length = a .palettes .count }) ≡ listOf (answer (on pat i paletteNames) s)
-  unfolding told ask
-  palettes-of = sym (ap listOf (asked paletteNames) ∙ (λ j. ListAnswer.List (record { place = e .offset + w .whole .palettes j; length = w .whole .palette-count j })))
+  pub palettes-of : answered (record { place = e .offset + a .palettes .place; length = a .palettes .count }) ≡ told (answer (on pat i paletteNames) s)
+  unfolding ask
+  palettes-of = sym (said paletteNames ∙ ap (λ (n : Names). answered (record { place = e .offset + n .place; length = n .count })) (w .whole .palettes))
 
   -- the names of the tracks
   pub track-names-end : e .offset + (a .block .names + 16 * a .block .count) ≤ length s
-  track-names-end = names-end s (e .offset) 12 8 (a .block) (w .stands .inside) (w .whole .block)
+  track-names-end = names-end s (e .offset) 12 8 (a .block) (w .stands .holds) (w .whole .block .holds)
 
-  pub name-of : (t : ℕ) (r : NameAnswer) → r ≡ nameAmong (view 16 (λ bs. bs) (a .block .count) (drop (a .block .names) (drop (e .offset) s))) t
-      → r ≡ nameAnswerOf (answer (on pat i (patternName t)) s)
+  pub name-of : (t : ℕ) (v : Verdict Name) → v ≡ nameAmong (view 16 (λ bs. bs) (a .block .count) (drop (a .block .names) here)) t → v ≡ told (answer (on pat i (patternName t)) s)
   unfolding ask
-  name-of t r q =
-      q
-      ∙ sym (ap nameAnswerOf (asked (patternName t))
-      ∙ (name-told (max (e .end) (e .offset + a .reach)) (ask (patternName t) patternEntry) ∙ ap (λ (l : List (List ℕ)). nameAmong l t) (w .whole .names)))
+  name-of t v q = q ∙ sym (said (patternName t) ∙ ap (λ (l : List Name). nameAmong l t) (w .whole .names))
 
   -- a track past the list
-  pub track-past : (t : ℕ) → a .block .count ≤ t → KeysRefused s i t 9
-  unfolding told ask
-  track-past t h =
-      let l : length (w .whole .held .tracks) ≤ t = rw (pattern-count (drop (e .offset) s) a (w .whole)) h in
-      record {
-        listed = sym (ap listOf (asked (keys t)) ∙ rw (le-ltb t (length (w .whole .held .tracks)) l) refl);
-        choices = λ f. sym (ap choiceOf (asked (chosen t f)) ∙ rw (le-ltb t (length (w .whole .held .tracks)) l) refl);
-      }
+  pub track-past : (t : ℕ) → a .block .count ≤ t → (q : PatternQuery) → told (answer (on pat i (ofPattern t q)) s) ≡ denied 9
+  unfolding ask
+  track-past t h q = let l : length tracks ≤ t = rw (track-count here a (w .whole)) h in said (ofPattern t q) ∙ rw (le-ltb t (length tracks) l) refl
 
   module _ (t : ℕ) (h : t < a .block .count) where
     abbrev datum : ℕ
@@ -120,35 +96,32 @@ module _ (s : List ℕ) (i : ℕ) (e : EntryAt) (a : Pattern) (w : PatternAt s i
 
     pub datum-end : e .offset + datum + 8 ≤ length s
     datum-end =
-        let d = datum-inside (drop (e .offset) s) a (w .whole) t h in
-        let o = w .stands .inside in
+        let d = datum-inside here a (w .whole) t h in
+        let o = w .stands .holds in
         omega (arith, length-drop (e .offset) s)
 
     -- the keys that the datum says
-    module _ (place count : ℕ) (p : place ≡ wordAt 2 s (e .offset + datum + 6)) (n : count ≡ wordAt 4 s (e .offset + datum)) where
-      place-there : place ≡ wordAt 2 (drop (e .offset) s) (datum + 6)
-      place-there = p ∙ (ap (wordAt 2 s) (add-assoc (e .offset) datum 6) ∙ sym (word-onward 2 (e .offset) (datum + 6) s))
+    module _ (l : ItemList) (k : ListedAt s (e .offset + datum + 6) 4 (e .offset + datum) l) where
+      there : ListedAt here (datum + 6) 4 datum l
+      there =
+          record {
+            place = k .place ∙ (ap (wordAt 2 s) (add-assoc (e .offset) datum 6) ∙ sym (word-onward 2 (e .offset) (datum + 6) s));
+            count = k .count ∙ sym (word-onward 4 (e .offset) datum s);
+            near = k .near;
+            few = k .few;
+          }
 
-      count-there : count ≡ wordAt 4 (drop (e .offset) s) datum
-      count-there = n ∙ sym (word-onward 4 (e .offset) datum s)
-
-      abbrev none : Track
-      none = record { place = 0; keys = [] }
-
-      pub keys-at : KeysAt s i t (record { place = e .offset + place; length = count })
-      unfolding told ask
+      pub keys-at : KeysAt s i t (record { place = e .offset + l .place; length = l .count })
+      unfolding ask askPattern
       keys-at =
-          let l : t < length (w .whole .held .tracks) = rw (pattern-count (drop (e .offset) s) a (w .whole)) h in
-          let o = w .stands .inside in
-          let k = keys-inside (drop (e .offset) s) a (w .whole) t h place count place-there count-there none in
+          let m : t < length tracks = rw (track-count here a (w .whole)) h in
+          let o = w .stands .holds in
+          let j = keys-inside here a (w .whole) t h l there noTrack in
           record {
             inside = omega (arith, length-drop (e .offset) s);
             listed =
-                sym (ap listOf (asked (keys t))
-                ∙ rw (lt-ltb t (length (w .whole .held .tracks)) l, track-of (drop (e .offset) s) a (w .whole) t h place count place-there count-there none)
-                (ap (λ (x : ℕ). ListAnswer.List (record { place = e .offset + place; length = x })) (view-length 4 keyOf count (drop place (drop (e .offset) s)))));
-            choices = λ f.
-                sym (ap choiceOf (asked (chosen t f))
-                ∙ rw (lt-ltb t (length (w .whole .held .tracks)) l, track-of (drop (e .offset) s) a (w .whole) t h place count place-there count-there none, drop-drop place (e .offset) s)
-                (choice-told (max (e .end) (e .offset + a .reach)) (chosenOf (view 4 keyOf count (drop (e .offset + place) s)) f)));
+                said (ofPattern t keys)
+                ∙ rw (lt-ltb t (length tracks) m, track-of here a (w .whole) t h l there noTrack)
+                (ap (λ (x : ℕ). answered (record { place = e .offset + l .place; length = x })) (view-length 4 keyOf (l .count) (drop (l .place) here)));
+            choices = λ f. said (ofPattern t (chosen f)) ∙ rw (lt-ltb t (length tracks) m, track-of here a (w .whole) t h l there noTrack, drop-drop (l .place) (e .offset) s) refl;
           }

@@ -10,10 +10,10 @@ use lib.Ieee.{Float}
 use Rattle.util.specs.Reader.{Reader, done, bind, Outcome, accepted, refused, run, Verdict, answered, denied, given, tell}
 use Rattle.matrix.specs.declared.Mat3.{Mat3}
 use Rattle.matrix.specs.declared.Mat4.{Mat4}
-use Rattle.matrix.specs.Matrix.{f0, f1, bytesOf}
+use Rattle.matrix.specs.Matrix.{bytesOf}
 use Rattle.info_block.specs.Name.{Name, named}
 use Rattle.curve.specs.Curve.{Curve, none, Recorded, recorded}
-use Rattle.animation.specs.Animation.{Axes, Object, noAxes, matrixAt}
+use Rattle.animation.specs.Animation.{Axes, Object, stillObject, Triple, axesOf, defaultOf, matrixAt}
 use Rattle.material_animation.specs.MaterialAnimation.{uvMatrixAt}
 use Rattle.pattern.specs.Pattern.{Key, Track, choice}
 use Rattle.nitro.specs.Container.{Kind, jnt, srt, pat, allKinds, stamped, section, Entry, entry, EntryRecord, recordOf, entryOf}
@@ -21,26 +21,33 @@ use Rattle.gltf.specs.Curve.{Resampled, resample}
 
 -- ---- what is asked of an entry
 
-pub data Query : Kind → Type 0 where
-  -- of a JNT0 entry
-  matrix : (object frame : ℕ) → Query jnt
-  translationCurve : (object axis : ℕ) → Query jnt
-  rotationCurve : (object : ℕ) → Query jnt
-  scaleCurve : (object axis : ℕ) → Query jnt
-  resampleTranslation : (object : ℕ) (out : List Float) (place : ℕ) → Query jnt
-  resampleScale : (object : ℕ) (out : List Float) (place : ℕ) → Query jnt
+-- of an object of a JNT0 entry
+pub data ObjectQuery : Type 0 where
+  matrix : (frame : ℕ) → ObjectQuery
+  curve : (which : Triple) (axis : ℕ) → ObjectQuery
+  rotationCurve : ObjectQuery
+  resampled : (which : Triple) (out : List Float) (place : ℕ) → ObjectQuery
   -- the C call: the matrix's bytes, into a lent slice
-  matrixBytes : (object frame : ℕ) (out : List ℕ) → Query jnt
-  -- of an SRT0 entry
-  uvMatrix : (track frame : ℕ) → Query srt
-  channelCurve : (track channel : ℕ) → Query srt
+  matrixBytes : (frame : ℕ) (out : List ℕ) → ObjectQuery
+
+-- of a track of an SRT0 entry
+pub data MaterialQuery : Type 0 where
+  uvMatrix : (frame : ℕ) → MaterialQuery
+  channelCurve : (channel : ℕ) → MaterialQuery
+
+-- of a track of a PAT0 entry
+pub data PatternQuery : Type 0 where
+  chosen : (frame : ℕ) → PatternQuery
+  keys : PatternQuery
+
+pub data Query : Kind → Type 0 where
+  ofObject : (object : ℕ) → ObjectQuery → Query jnt
+  ofMaterial : (track : ℕ) → MaterialQuery → Query srt
   materialName : (track : ℕ) → Query srt
-  -- of a PAT0 entry
-  chosen : (track frame : ℕ) → Query pat
+  ofPattern : (track : ℕ) → PatternQuery → Query pat
+  patternName : (track : ℕ) → Query pat
   textureNames : Query pat
   paletteNames : Query pat
-  keys : (track : ℕ) → Query pat
-  patternName : (track : ℕ) → Query pat
 
 -- a texture's and a palette's index
 pub record Chosen : Type 0 where
@@ -52,22 +59,29 @@ pub record Listed : Type 0 where
   pub place : ℕ
   pub length : ℕ
 
+abbrev pub ObjectReply : ObjectQuery → Type 0
+ObjectReply (matrix f) = Mat4
+ObjectReply (curve t a) = Recorded Float
+ObjectReply rotationCurve = Recorded Mat3
+ObjectReply (resampled t out p) = Resampled
+ObjectReply (matrixBytes f out) = List ℕ
+
+abbrev pub MaterialReply : MaterialQuery → Type 0
+MaterialReply (uvMatrix f) = Mat4
+MaterialReply (channelCurve c) = Recorded Float
+
+abbrev pub PatternReply : PatternQuery → Type 0
+PatternReply (chosen f) = Chosen
+PatternReply keys = Listed
+
 abbrev pub Reply : {k : Kind} → Query k → Type 0
-Reply (matrix o f) = Mat4
-Reply (translationCurve o a) = Recorded Float
-Reply (rotationCurve o) = Recorded Mat3
-Reply (scaleCurve o a) = Recorded Float
-Reply (resampleTranslation o out p) = Resampled
-Reply (resampleScale o out p) = Resampled
-Reply (matrixBytes o f out) = List ℕ
-Reply (uvMatrix t f) = Mat4
-Reply (channelCurve t c) = Recorded Float
+Reply (ofObject o q) = ObjectReply q
+Reply (ofMaterial t q) = MaterialReply q
 Reply (materialName t) = Name
-Reply (chosen t f) = Chosen
+Reply (ofPattern t q) = PatternReply q
+Reply (patternName t) = Name
 Reply textureNames = Listed
 Reply paletteNames = Listed
-Reply (keys t) = Listed
-Reply (patternName t) = Name
 
 -- ---- indexes: 9 past the list
 
@@ -76,18 +90,8 @@ module _ {A B : Type 0} where
   abbrev pub at : List A → A → ℕ → (A → Verdict B) → Verdict B
   at items default i f = given (ltb i (length items)) 9 (f (getD items i default))
 
-module _ {B : Type 0} where
-  abbrev pub atAxis : Axes → ℕ → (Curve Float → Verdict B) → Verdict B
-  atAxis a i f = at (a .x ∷ a .y ∷ a .z ∷ []) none i f
-
-  abbrev pub atObject : Entry jnt → ℕ → (Object → Verdict B) → Verdict B
-  atObject e i f = at (e .held .objects) (record { translation = noAxes; rotation = none; scale = noAxes }) i f
-
-  abbrev pub atMaterial : Entry srt → ℕ → (List (Curve Float) → Verdict B) → Verdict B
-  atMaterial e i f = at (e .held .tracks) [] i f
-
-  abbrev pub atTrack : Entry pat → ℕ → (Track → Verdict B) → Verdict B
-  atTrack e i f = at (e .held .tracks) (record { place = 0; keys = [] }) i f
+abbrev pub noTrack : Track
+noTrack = record { place = 0; keys = [] }
 
 -- 10 for a track with no keys
 unfoldable pub chosenOf : List Key → ℕ → Verdict Chosen
@@ -96,22 +100,30 @@ chosenOf (k ∷ ks) frame = let c = choice (k ∷ ks) k frame in answered (recor
 
 -- ---- the answer to a query, from the entry alone
 
+-- of an object of an entry that stands at `entry`
+unfoldable pub askObject : (q : ObjectQuery) → ℕ → Object → Verdict (ObjectReply q)
+askObject (matrix frame) entry o = answered (matrixAt o frame)
+askObject (curve which axis) entry o = let a = axesOf which o in at (a .x ∷ a .y ∷ a .z ∷ []) none axis (λ c. answered (recorded entry c))
+askObject rotationCurve entry o = answered (recorded entry (o .rotation))
+askObject (resampled which out place) entry o = resample (defaultOf which) (axesOf which o) out place
+askObject (matrixBytes frame out) entry o = given (leb 128 (length out)) 11 (answered (sets out 0 (bytesOf (matrixAt o frame))))
+
+unfoldable pub askMaterial : (q : MaterialQuery) → ℕ → List (Curve Float) → Verdict (MaterialReply q)
+askMaterial (uvMatrix frame) entry channels = answered (uvMatrixAt channels frame)
+askMaterial (channelCurve channel) entry channels = at channels none channel (λ c. answered (recorded entry c))
+
+unfoldable pub askPattern : (q : PatternQuery) → ℕ → Track → Verdict (PatternReply q)
+askPattern (chosen frame) entry t = chosenOf (t .keys) frame
+askPattern keys entry t = answered (record { place = entry + t .place; length = length (t .keys) })
+
 unfoldable pub ask : {k : Kind} (q : Query k) → Entry k → Verdict (Reply q)
-ask (matrix object frame) e = atObject e object (λ o. answered (matrixAt o frame))
-ask (translationCurve object axis) e = atObject e object (λ o. atAxis (o .translation) axis (λ c. answered (recorded (e .offset) c)))
-ask (rotationCurve object) e = atObject e object (λ o. answered (recorded (e .offset) (o .rotation)))
-ask (scaleCurve object axis) e = atObject e object (λ o. atAxis (o .scale) axis (λ c. answered (recorded (e .offset) c)))
-ask (resampleTranslation object out place) e = atObject e object (λ o. resample f0 (o .translation) out place)
-ask (resampleScale object out place) e = atObject e object (λ o. resample f1 (o .scale) out place)
-ask (matrixBytes object frame out) e = atObject e object (λ o. given (leb 128 (length out)) 11 (answered (sets out 0 (bytesOf (matrixAt o frame)))))
-ask (uvMatrix track frame) e = atMaterial e track (λ t. answered (uvMatrixAt t frame))
-ask (channelCurve track channel) e = atMaterial e track (λ t. at t none channel (λ c. answered (recorded (e .offset) c)))
+ask (ofObject object q) e = at (e .held .objects) stillObject object (askObject q (e .offset))
+ask (ofMaterial track q) e = at (e .held .tracks) [] track (askMaterial q (e .offset))
 ask (materialName track) e = at (e .held .names) [] track answered
-ask (chosen track frame) e = atTrack e track (λ t. chosenOf (t .keys) frame)
+ask (ofPattern track q) e = at (e .held .tracks) noTrack track (askPattern q (e .offset))
+ask (patternName track) e = at (e .held .names) [] track answered
 ask textureNames e = answered (record { place = e .offset + e .held .textures .place; length = e .held .textures .count })
 ask paletteNames e = answered (record { place = e .offset + e .held .palettes .place; length = e .held .palettes .count })
-ask (keys track) e = atTrack e track (λ t. answered (record { place = e .offset + t .place; length = length (t .keys) }))
-ask (patternName track) e = at (e .held .names) [] track answered
 
 -- ---- the calls
 
@@ -135,12 +147,8 @@ reader (on k i q) = bind (entryOf k i) (λ e. tell (ask q e))
 unfoldable pub answer : (c : Call) → List ℕ → Outcome (Answer c)
 answer c s = run (reader c) s 0
 
--- ---- a lent slice at exit: what was written, and its old contents where the call refuses
+-- ---- a lent slice at exit: what was written, and its old contents where the call refuses (of floats, gltf's `sliceOf`)
 
-abbrev pub floatsAfter : List Float → Outcome Resampled → List Float
-floatsAfter out (accepted m r) = r .slice
-floatsAfter out (refused n) = out
-
-abbrev pub bytesAfter : List ℕ → Outcome (List ℕ) → List ℕ
-bytesAfter out (accepted m written) = written
-bytesAfter out (refused n) = out
+abbrev pub bytesAfter : List ℕ → Verdict (List ℕ) → List ℕ
+bytesAfter out (answered written) = written
+bytesAfter out (denied n) = out

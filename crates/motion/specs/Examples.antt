@@ -9,10 +9,11 @@ use lib.Ieee.{Float, fin, neg}
 use Rattle.util.specs.View.{littleBytes}
 use Rattle.util.specs.Reader.{accepted, refused}
 use Rattle.matrix.specs.Matrix.{f0, f1, col4}
-use Rattle.curve.specs.Curve.{list}
+use Rattle.curve.specs.Curve.{listed}
+use Rattle.animation.specs.Animation.{translation, scale}
 use Rattle.nitro.specs.Container.{jnt, srt, pat, stampOf, EntryRecord}
 use Rattle.gltf.specs.Curve.{noSpan, span}
-use Rattle.motion.specs.Calls.{check, on, matrix, matrixBytes, translationCurve, resampleTranslation, resampleScale, chosen, channelCurve, answer}
+use Rattle.motion.specs.Calls.{check, on, ofObject, matrix, matrixBytes, curve, resampled, ofPattern, chosen, ofMaterial, channelCurve, answer}
 use Rattle.motion.specs.Evaluate.{evaluate}
 use Rattle.motion.specs.Pinned.{walk}
 
@@ -76,9 +77,9 @@ scrollRecord = record { name = zeros 16; frames = 0; count = 1 }
 
 -- the place counts from the section's start; a call that takes another stamp is refused before anything else is looked at
 pub its-channel :
-    (answer (on srt 0 (channelCurve 0 3)) (scroll 84) ≡ accepted 132 (list 0 0 132 0 2))
-    × (answer (on srt 0 (channelCurve 0 5)) (scroll 84) ≡ refused 9)
-    × (answer (on jnt 0 (resampleTranslation 0 [] 0)) (take 4 (scroll 84)) ≡ refused 1)
+    (answer (on srt 0 (ofMaterial 0 (channelCurve 3))) (scroll 84) ≡ accepted 132 (listed (record { start = 0; end = 0; place = 132; size = 2 }) 0))
+    × (answer (on srt 0 (ofMaterial 0 (channelCurve 5))) (scroll 84) ≡ refused 9)
+    × (answer (on jnt 0 (ofObject 0 (resampled translation [] 0))) (take 4 (scroll 84)) ≡ refused 1)
 unfolding evaluate
 its-channel = (refl, refl, refl)
 
@@ -93,30 +94,30 @@ blink texture palette =
     ++ u16 3 ++ u8 texture ++ u8 palette ++ zeros 32
 
 -- palette 1 is one of two palettes; texture 1 is none of one texture
-pub own-lists : (answer (on pat 0 (chosen 0 0)) (blink 0 1) ≡ accepted 168 (record { texture = 0; palette = 1 })) × (answer (check 0) (blink 1 0) ≡ refused 8)
+pub own-lists : (answer (on pat 0 (ofPattern 0 (chosen 0))) (blink 0 1) ≡ accepted 168 (record { texture = 0; palette = 1 })) × (answer (check 0) (blink 1 0) ≡ refused 8)
 unfolding evaluate
 own-lists = (refl, refl)
 
 -- a track with no keys is whole, and has nothing to choose from
-pub no-keys : answer (on pat 0 (chosen 1 0)) (blink 0 1) ≡ refused 10
+pub no-keys : answer (on pat 0 (ofPattern 1 (chosen 0))) (blink 0 1) ≡ refused 10
 unfolding evaluate
 no-keys = refl
 
 -- ---- 5. The 86 bytes resampled: the constants 1, -1 and 1/2, one frame, from place 1 on; all other elements stay
 
-abbrev five : List Float
-five = replicate 5 f0
+abbrev fiveZeros : List Float
+fiveZeros = replicate 5 f0
 
 pub one-frame :
-    (answer (on jnt 0 (resampleTranslation 0 five 1)) walk ≡ accepted 86 (record { over = span 0 1; frames = 1; slice = f0 ∷ f1 ∷ neg f1 ∷ fin false 1 (negsuc 0) ∷ f0 ∷ [] }))
-    × (answer (on jnt 0 (resampleTranslation 0 five 3)) walk ≡ refused 11)
+    (answer (on jnt 0 (ofObject 0 (resampled translation fiveZeros 1))) walk ≡ accepted 86 (record { over = span 0 1; frames = 1; slice = f0 ∷ f1 ∷ neg f1 ∷ fin false 1 (negsuc 0) ∷ f0 ∷ [] }))
+    × (answer (on jnt 0 (ofObject 0 (resampled translation fiveZeros 3))) walk ≡ refused 11)
 unfolding evaluate
 one-frame = (refl, refl)
 
 -- three missing curves: none, zero frames, and the place is tested all the same
 pub nothing-to-scale :
-    (answer (on jnt 0 (resampleScale 0 five 5)) walk ≡ accepted 86 (record { over = noSpan; frames = 0; slice = five }))
-    × (answer (on jnt 0 (resampleScale 0 five 6)) walk ≡ refused 11)
+    (answer (on jnt 0 (ofObject 0 (resampled scale fiveZeros 5))) walk ≡ accepted 86 (record { over = noSpan; frames = 0; slice = fiveZeros }))
+    × (answer (on jnt 0 (ofObject 0 (resampled scale fiveZeros 6))) walk ≡ refused 11)
 unfolding evaluate
 nothing-to-scale = (refl, refl)
 
@@ -130,18 +131,18 @@ still =
 
 -- the entry is whole, and there is nothing to resample: 10 comes before 11
 pub nothing-to-sample :
-    (answer (on jnt 0 (translationCurve 0 0)) still ≡ accepted 90 (list 3 4 90 0 4))
-    × (answer (on jnt 0 (resampleTranslation 0 [] 1)) still ≡ refused 10)
-    × (answer (on jnt 1 (resampleTranslation 0 [] 1)) still ≡ refused 9)
+    (answer (on jnt 0 (ofObject 0 (curve translation 0))) still ≡ accepted 90 (listed (record { start = 3; end = 4; place = 90; size = 4 }) 0))
+    × (answer (on jnt 0 (ofObject 0 (resampled translation [] 1))) still ≡ refused 10)
+    × (answer (on jnt 1 (ofObject 0 (resampled translation [] 1))) still ≡ refused 9)
 unfolding evaluate
 nothing-to-sample = (refl, refl, refl)
 
 -- ---- 7. The matrix of the 86 bytes: the identity, with the translation in its fourth column
 
 pub its-matrix :
-    (answer (on jnt 0 (matrix 0 5)) walk
+    (answer (on jnt 0 (ofObject 0 (matrix 5))) walk
     ≡ accepted 86 (record { c0 = col4 f1 f0 f0 f0; c1 = col4 f0 f1 f0 f0; c2 = col4 f0 f0 f1 f0; c3 = col4 f1 (neg f1) (fin false 1 (negsuc 0)) f1 }))
-    × (answer (on jnt 0 (matrix 1 5)) walk ≡ refused 9)
-    × (answer (on jnt 0 (matrixBytes 0 5 (zeros 127))) walk ≡ refused 11)
+    × (answer (on jnt 0 (ofObject 1 (matrix 5))) walk ≡ refused 9)
+    × (answer (on jnt 0 (ofObject 0 (matrixBytes 5 (zeros 127)))) walk ≡ refused 11)
 unfolding evaluate
 its-matrix = (refl, refl, refl)

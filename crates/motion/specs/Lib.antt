@@ -1,12 +1,11 @@
 pub mod Calls
-pub mod Finding
 pub mod Demand3
 pub mod Evaluate
 pub mod Pinned
 pub mod Examples
 pub mod Slips
-pub mod Listing
-pub mod Answers
-pub mod Opened
+pub mod AnswersCode
+pub mod OpenedCode
 pub mod PatCode
 pub mod SrtCode
+pub mod FindingCode

@@ -11,8 +11,7 @@ use Rattle.matrix.specs.Matrix.{f0, f1, col3}
 use Rattle.rotation.specs.Rotation.{pivotMat, basisMat}
 use Rattle.curve.specs.Curve.{Curve, samples}
 use Rattle.pattern.specs.Pattern.{Key, firstLater, choice}
-use Rattle.gltf.specs.declared.CurveDomain.the-variants.{Sampled}
-use Rattle.gltf.specs.Curve.{domain, framesFrom, framesOf}
+use Rattle.gltf.specs.Curve.{over, domain, framesFrom, framesOf}
 use Rattle.motion.specs.Calls.{check, answer}
 use Rattle.motion.specs.Evaluate.{evaluate}
 
@@ -43,18 +42,18 @@ abbrev pub keyAt : ℕ → ℕ
 keyAt frame = choice unsorted (key 0 0) frame .texture
 
 -- start 0, end 11, five values
-abbrev pub five : Curve Float
-five = samples 0 11 0 4 (f0 ∷ f0 ∷ f0 ∷ f0 ∷ f0 ∷ [])
+abbrev pub fiveValues : Curve Float
+fiveValues = samples (record { start = 0; end = 11; place = 0; size = 4 }) (f0 ∷ f0 ∷ f0 ∷ f0 ∷ f0 ∷ [])
 
 -- negsuc n is -(n + 1)
 pub record Pinned : Type 0 where
   pub P1 : Exactly (fixed fix1-19-12 0x8000_0000) (negsuc 524287) 1 × Exactly (fixed fix1-19-12 0xFFFF_FFFF) (negsuc 0) 4096
   pub P2 : Exactly (fixed fix1-3-12 0x8000) (negsuc 7) 1 × Exactly (fixed fix1-3-12 0x7FFF) (pos 32767) 4096
   pub P3 : Exactly (fixed fix1-10-5 0xFFFF) (negsuc 0) 32
-  pub P4 : (flags : ℕ) (b : Float) → pivotMat 9 flags f1 b ≡ record { c0 = col3 (neg f1) f0 f0; c1 = col3 f0 f0 f0; c2 = col3 f0 f0 f0 }
+  pub P4 : (neg₀ : ℕ) (b : Float) → pivotMat 9 neg₀ f1 b ≡ record { c0 = col3 (neg f1) f0 f0; c1 = col3 f0 f0 f0; c2 = col3 f0 f0 f0 }
   pub P5 : Exactly (basisMat 0x7FF8 0 0 0 0x7FF8 .c2 .z) (pos 16769025) 16777216
   pub P6 : Exactly (basisMat 0 0 0 0 7 .c1 .z) (negsuc 0) 1 × (basisMat 0 0 0 0 6 .c1 .z ≡ f0)
-  pub P7 : (domain five ≡ Sampled 0 11 2) × (length (framesOf (domain five)) ≡ 6)
+  pub P7 : (domain fiveValues ≡ over 0 11 2) × (length (framesOf (domain fiveValues)) ≡ 6)
   pub P8 : (keyAt 0 ≡ 0) × (keyAt 2 ≡ 0) × (keyAt 5 ≡ 1) × (keyAt 9 ≡ 2)
   pub P9 : (answer (check 0) walk ≡ accepted 86 (record { name = walkName; frames = 12; count = 1 })) × (answer (check 0) (take 85 walk) ≡ refused 2)
 
@@ -65,7 +64,7 @@ pinned =
       P1 = ((refl, refl), (refl, refl));
       P2 = ((refl, refl), (refl, refl));
       P3 = (refl, refl);
-      P4 = λ flags b. refl;
+      P4 = λ neg₀ b. refl;
       P5 = (refl, refl);
       P6 = ((refl, refl), refl);
       P7 = (refl, refl);

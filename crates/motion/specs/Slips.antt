@@ -8,8 +8,7 @@ use lib.ListN.{getD}
 use Rattle.util.specs.Reader.{accepted, refused}
 use Rattle.curve.specs.Curve.{floor, ceil, index}
 use Rattle.pattern.specs.Pattern.{Key}
-use Rattle.gltf.specs.declared.CurveDomain.the-variants.{Sampled}
-use Rattle.gltf.specs.Curve.{framesOf}
+use Rattle.gltf.specs.Curve.{over, framesOf}
 use Rattle.motion.specs.Calls.{check, answer}
 use Rattle.motion.specs.Evaluate.{evaluate}
 use Rattle.motion.specs.Pinned.{unsorted, keyAt}
@@ -22,7 +21,7 @@ unfolding evaluate
 exact-fraction = (refl, refl, refl)
 
 -- 2. the frames counted by division rounded down: start 0, end 11, rate 2 has the frames 0, 2, 4, 6, 8, 10
-pub rounded-down : (framesOf (Sampled 0 11 2) ≡ 0 ∷ 2 ∷ 4 ∷ 6 ∷ 8 ∷ 10 ∷ []) × ((11 - 0) / 2 ≡ 5)
+pub rounded-down : (framesOf (over 0 11 2) ≡ 0 ∷ 2 ∷ 4 ∷ 6 ∷ 8 ∷ 10 ∷ []) × ((11 - 0) / 2 ≡ 5)
 unfolding evaluate
 rounded-down = (refl, refl)
 

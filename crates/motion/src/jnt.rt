@@ -1,67 +1,95 @@
-// Calls on a JNT0 entry.
+// Calls on an object of a JNT0 entry.
 use crate::answers::MatrixAnswer;
 use crate::opened::ObjectOpen;
 use crate::opened::open_object;
+use animation::Triple;
+use animation::curves_of;
+use gltf::Resampling;
 use trs::CurveRecord;
 use trs::RotationAnswer;
 use trs::record_axis;
 use trs::record_rotation;
 use trs::sample_at;
 ghost use mathlib.Core.Path.{_≡_};
+ghost use Rattle.util.specs.Reader.{told};
+ghost use Rattle.animation.specs.Animation.{defaultOf};
+ghost use Rattle.animation.specs.AnimationCode.{tripleMeans};
+ghost use Rattle.trs.specs.TrsCode.{curveMeans, rotationAnswerMeans};
+ghost use Rattle.gltf.specs.CurveCode.{resamplingMeans};
+ghost use Rattle.gltf.specs.Curve.{sliceOf};
 ghost use Rattle.nitro.specs.Container.{jnt};
-ghost use Rattle.motion.specs.Calls.{answer, on, translationCurve, rotationCurve, scaleCurve};
+ghost use Rattle.motion.specs.Calls.{answer, on, ofObject, rotationCurve, resampled};
 ghost use Rattle.motion.specs.Calls as calls;
-ghost use Rattle.motion.specs.Answers.{matrixOf, curveOf, rotationAnswerOf};
+ghost use Rattle.motion.specs.AnswersCode.{matrixAnswerMeans};
 
 // The matrix of an object at a frame.
 pub fn matrix(s: &[u8], entry: usize, object: usize, frame: u16) -> MatrixAnswer
-    ensures { λ r. ⌜ r ≡ matrixOf (answer (on jnt entry (calls.matrix object frame)) (now (s .entry))) ⌝ }
+    ensures { λ r. ⌜ matrixAnswerMeans r ≡ told (answer (on jnt entry (ofObject object (calls.matrix frame))) (now (s .entry))) ⌝ }
 {
     match open_object(s, entry, object) {
         ObjectOpen::Refused(n) => MatrixAnswer::Refused(n),
-        ObjectOpen::At(e, tables, c) => {
-            let off = e.offset;
-            MatrixAnswer::Matrix(sample_at(&s[off..], tables, c, frame))
-        }
+        ObjectOpen::At(off, tables, c) => MatrixAnswer::Matrix(sample_at(
+            &s[off..],
+            tables,
+            c,
+            frame,
+        )),
     }
 }
 
-// The record of an object's translation curve on axis 0, 1 or 2.
-pub fn translation_curve(s: &[u8], entry: usize, object: usize, axis: usize) -> CurveRecord
-    ensures { λ r. ⌜ r ≡ curveOf (answer (on jnt entry (translationCurve object axis)) (now (s .entry))) ⌝ }
+// The record of an object's translation or scale curve on axis 0, 1 or 2.
+pub fn curve(s: &[u8], entry: usize, object: usize, which: Triple, axis: usize) -> CurveRecord
+    ensures { λ r. ⌜ curveMeans r ≡ told (answer (on jnt entry (ofObject object (calls.curve (tripleMeans which) axis))) (now (s .entry))) ⌝ }
 {
     match open_object(s, entry, object) {
         ObjectOpen::Refused(n) => CurveRecord::Refused(n),
-        ObjectOpen::At(e, _, c) => {
-            let curves = c.trans;
-            record_axis(curves, axis, e.offset)
-        }
+        ObjectOpen::At(off, _, c) => record_axis(&s[off..], curves_of(which, c), axis, off),
     }
 }
 
 // The record of an object's rotation curve.
 pub fn rotation_curve(s: &[u8], entry: usize, object: usize) -> RotationAnswer
-    ensures { λ r. ⌜ r ≡ rotationAnswerOf (answer (on jnt entry (rotationCurve object)) (now (s .entry))) ⌝ }
+    ensures { λ r. ⌜ rotationAnswerMeans r ≡ told (answer (on jnt entry (ofObject object rotationCurve)) (now (s .entry))) ⌝ }
 {
     match open_object(s, entry, object) {
         ObjectOpen::Refused(n) => RotationAnswer::Refused(n),
-        ObjectOpen::At(e, tables, c) => {
-            let off = e.offset;
+        ObjectOpen::At(off, tables, c) => {
             let curve = c.rotation;
             RotationAnswer::Curve(record_rotation(&s[off..], tables, curve, off))
         }
     }
 }
 
-// The record of an object's scale curve on axis 0, 1 or 2.
-pub fn scale_curve(s: &[u8], entry: usize, object: usize, axis: usize) -> CurveRecord
-    ensures { λ r. ⌜ r ≡ curveOf (answer (on jnt entry (scaleCurve object axis)) (now (s .entry))) ⌝ }
+// The value where a curve of the triple is missing.
+fn default_of(which: Triple) -> f64
+    ensures { λ r. ⌜ r ≡ defaultOf (tripleMeans which) ⌝ }
+{
+    match which {
+        Triple::Translation => 0.0,
+        Triple::Scale => 1.0,
+    }
+}
+
+// An object's translation or scale, resampled onto the common frames of its three curves into a lent slice, from a place onward: x, y, z for
+// each frame.
+pub fn resample(
+    s: &[u8],
+    entry: usize,
+    object: usize,
+    which: Triple,
+    out: &mut [f64],
+    place: usize,
+) -> Resampling
+    ensures { λ r. ⌜ (resamplingMeans r (now (out .exit)) ≡ told (answer (on jnt entry (ofObject object (resampled (tripleMeans which) (now (out .entry)) place))) (now (s .entry)))) × (now (out .exit) ≡ sliceOf (now (out .entry)) (told (answer (on jnt entry (ofObject object (resampled (tripleMeans which) (now (out .entry)) place))) (now (s .entry))))) ⌝ }
 {
     match open_object(s, entry, object) {
-        ObjectOpen::Refused(n) => CurveRecord::Refused(n),
-        ObjectOpen::At(e, _, c) => {
-            let curves = c.scale;
-            record_axis(curves, axis, e.offset)
-        }
+        ObjectOpen::Refused(n) => Resampling::Refused(n),
+        ObjectOpen::At(off, _, c) => gltf::resample(
+            &s[off..],
+            curves_of(which, c),
+            default_of(which),
+            out,
+            place,
+        ),
     }
 }

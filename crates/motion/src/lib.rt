@@ -1,29 +1,27 @@
 // The public calls: each answers every section, every index and every name, and none asks anything of its caller.
 pub mod answers;
-pub mod host;
 pub mod jnt;
 mod opened;
 pub mod pat;
-pub mod resample;
 pub mod srt;
 
 use info_block::BlockRead;
+use info_block::name::NameFound;
+use info_block::name::find_name;
 use nitro::container::StampRead;
 use nitro::container::read_section;
 use nitro::container::read_stamp;
 use nitro::entry::EntryCheck;
 use nitro::entry::check_entry;
-use nitro::name::NameFound;
-use nitro::name::find_name;
 ghost use mathlib.Core.Path.{_≡_};
-ghost use Rattle.nitro.specs.EntryCode.{checkOf};
+ghost use Rattle.nitro.specs.EntryCode.{checkMeans};
 ghost use Rattle.motion.specs.Calls.{answer};
 ghost use Rattle.motion.specs.Calls as calls;
-ghost use Rattle.motion.specs.Finding.{Finds};
+ghost use Rattle.motion.specs.FindingCode.{Finds};
 
 // The entry check: the number, or the record.
 pub fn check(s: &[u8], entry: usize) -> EntryCheck
-    ensures { λ r. ⌜ r ≡ checkOf (answer (calls.check entry) (now (s .entry))) ⌝ }
+    ensures { λ r. ⌜ checkMeans r ≡ answer (calls.check entry) (now (s .entry)) ⌝ }
 {
     match read_stamp(s) {
         StampRead::Refused(n) => EntryCheck::Refused(n),

@@ -2,27 +2,29 @@
 use crate::answers::ChoiceAnswer;
 use crate::answers::ListAnswer;
 use crate::answers::ListPlace;
-use crate::opened::PatternOpen;
-use crate::opened::open_pattern;
-use nitro::entry::NameAnswer;
-use nitro::entry::name_in;
+use info_block::name::NameAnswer;
+use info_block::name::name_in;
+use nitro::entry::PatternOpen;
+use nitro::entry::open_pattern;
 use pattern::read_track_keys;
 use pattern::sample;
 ghost use mathlib.Core.Path.{_≡_};
+ghost use Rattle.util.specs.Reader.{told};
+ghost use Rattle.info_block.specs.NameCode.{nameAnswerMeans};
 ghost use Rattle.nitro.specs.Container.{pat};
-ghost use Rattle.motion.specs.Calls.{on, textureNames, paletteNames, patternName, chosen, answer};
+ghost use Rattle.motion.specs.Calls.{on, ofPattern, textureNames, paletteNames, patternName, chosen, answer};
 ghost use Rattle.motion.specs.Calls as calls;
-ghost use Rattle.motion.specs.Answers.{listOf, nameAnswerOf, choiceOf};
+ghost use Rattle.motion.specs.AnswersCode.{listAnswerMeans, choiceAnswerMeans};
 ghost use Rattle.motion.specs.PatCode.{KeysAre};
 
 // The list of the texture names.
 pub fn texture_names(s: &[u8], entry: usize) -> ListAnswer
-    ensures { λ r. ⌜ r ≡ listOf (answer (on pat entry textureNames) (now (s .entry))) ⌝ }
+    ensures { λ r. ⌜ listAnswerMeans r ≡ told (answer (on pat entry textureNames) (now (s .entry))) ⌝ }
 {
     match open_pattern(s, entry) {
         PatternOpen::Refused(n) => ListAnswer::Refused(n),
         PatternOpen::At(e, a) => ListAnswer::List(ListPlace {
-            place: e.offset + a.textures.place,
+            place: e.offset as usize + a.textures.place,
             length: a.textures.count,
         }),
     }
@@ -30,12 +32,12 @@ pub fn texture_names(s: &[u8], entry: usize) -> ListAnswer
 
 // The list of the palette names.
 pub fn palette_names(s: &[u8], entry: usize) -> ListAnswer
-    ensures { λ r. ⌜ r ≡ listOf (answer (on pat entry paletteNames) (now (s .entry))) ⌝ }
+    ensures { λ r. ⌜ listAnswerMeans r ≡ told (answer (on pat entry paletteNames) (now (s .entry))) ⌝ }
 {
     match open_pattern(s, entry) {
         PatternOpen::Refused(n) => ListAnswer::Refused(n),
         PatternOpen::At(e, a) => ListAnswer::List(ListPlace {
-            place: e.offset + a.palettes.place,
+            place: e.offset as usize + a.palettes.place,
             length: a.palettes.count,
         }),
     }
@@ -51,9 +53,9 @@ fn find_keys(s: &[u8], entry: usize, track: usize) -> ListAnswer
             if a.block.count <= track {
                 return ListAnswer::Refused(9);
             }
-            let keys = read_track_keys(s, e.offset + (a.block.datums + 8 * track));
+            let keys = read_track_keys(s, e.offset as usize + (a.block.datums + 8 * track));
             ListAnswer::List(ListPlace {
-                place: e.offset + keys.place,
+                place: e.offset as usize + keys.place,
                 length: keys.count,
             })
         }
@@ -62,27 +64,27 @@ fn find_keys(s: &[u8], entry: usize, track: usize) -> ListAnswer
 
 // The list of a track's keys.
 pub fn keys(s: &[u8], entry: usize, track: usize) -> ListAnswer
-    ensures { λ r. ⌜ r ≡ listOf (answer (on pat entry (calls.keys track)) (now (s .entry))) ⌝ }
+    ensures { λ r. ⌜ listAnswerMeans r ≡ told (answer (on pat entry (ofPattern track calls.keys)) (now (s .entry))) ⌝ }
 {
     find_keys(s, entry, track)
 }
 
 // The name of a track.
 pub fn track_name(s: &[u8], entry: usize, track: usize) -> NameAnswer
-    ensures { λ r. ⌜ r ≡ nameAnswerOf (answer (on pat entry (patternName track)) (now (s .entry))) ⌝ }
+    ensures { λ r. ⌜ nameAnswerMeans r ≡ told (answer (on pat entry (patternName track)) (now (s .entry))) ⌝ }
 {
     match open_pattern(s, entry) {
         PatternOpen::Refused(n) => NameAnswer::Refused(n),
         PatternOpen::At(e, a) => {
             let block = a.block;
-            name_in(s, e.offset, block, track)
+            name_in(s, e.offset as usize, block, track)
         }
     }
 }
 
 // The texture and the palette of a track at a frame.
 pub fn choice(s: &[u8], entry: usize, track: usize, frame: u16) -> ChoiceAnswer
-    ensures { λ r. ⌜ r ≡ choiceOf (answer (on pat entry (chosen track frame)) (now (s .entry))) ⌝ }
+    ensures { λ r. ⌜ choiceAnswerMeans r ≡ told (answer (on pat entry (ofPattern track (chosen frame))) (now (s .entry))) ⌝ }
 {
     match find_keys(s, entry, track) {
         ListAnswer::Refused(n) => ChoiceAnswer::Refused(n),

@@ -1,20 +1,22 @@
 // The calls on an entry of an SRT0 section.
 use crate::answers::MatrixAnswer;
-use crate::opened::MaterialOpen;
-use crate::opened::open_material;
-use curve::ScalarCurve;
+use curve::record_scalar;
+use info_block::name::NameAnswer;
+use info_block::name::name_in;
 use material_animation::ChannelRead;
 use material_animation::eval_uv_mat;
 use material_animation::read_channel;
-use nitro::entry::NameAnswer;
-use nitro::entry::name_in;
+use nitro::entry::MaterialOpen;
+use nitro::entry::open_material;
 use trs::CurveRecord;
-use trs::record_scalar;
 ghost use mathlib.Core.Path.{_≡_};
+ghost use Rattle.util.specs.Reader.{told};
+ghost use Rattle.info_block.specs.NameCode.{nameAnswerMeans};
+ghost use Rattle.trs.specs.TrsCode.{curveMeans};
 ghost use Rattle.nitro.specs.Container.{srt};
-ghost use Rattle.motion.specs.Calls.{on, materialName, uvMatrix, channelCurve, answer};
-ghost use Rattle.motion.specs.Answers.{nameAnswerOf, matrixOf, curveOf};
-ghost use Rattle.motion.specs.SrtCode.{TrackFinds, ChannelFinds};
+ghost use Rattle.motion.specs.Calls.{on, ofMaterial, materialName, uvMatrix, channelCurve, answer};
+ghost use Rattle.motion.specs.AnswersCode.{matrixAnswerMeans};
+ghost use Rattle.motion.specs.SrtCode.{TrackFinds};
 
 // Where a track's datum stands: the offset of its entry, and its place in the entry.
 struct TrackAt {
@@ -27,21 +29,15 @@ enum TrackFound {
     Refused(u8),
 }
 
-// The offset of an entry, and a channel's curve in it.
-enum ChannelFound {
-    At(usize, ScalarCurve),
-    Refused(u8),
-}
-
 // The name of a track.
 pub fn track_name(s: &[u8], entry: usize, track: usize) -> NameAnswer
-    ensures { λ r. ⌜ r ≡ nameAnswerOf (answer (on srt entry (materialName track)) (now (s .entry))) ⌝ }
+    ensures { λ r. ⌜ nameAnswerMeans r ≡ told (answer (on srt entry (materialName track)) (now (s .entry))) ⌝ }
 {
     match open_material(s, entry) {
         MaterialOpen::Refused(n) => NameAnswer::Refused(n),
         MaterialOpen::At(e, a) => {
             let block = a.block;
-            name_in(s, e.offset, block, track)
+            name_in(s, e.offset as usize, block, track)
         }
     }
 }
@@ -57,7 +53,7 @@ fn find_track(s: &[u8], entry: usize, track: usize) -> TrackFound
                 return TrackFound::Refused(9);
             }
             TrackFound::At(TrackAt {
-                offset: e.offset,
+                offset: e.offset as usize,
                 datum: a.block.datums + 40 * track,
             })
         }
@@ -66,7 +62,7 @@ fn find_track(s: &[u8], entry: usize, track: usize) -> TrackFound
 
 // The matrix of a track at a frame.
 pub fn uv_matrix(s: &[u8], entry: usize, track: usize, frame: u16) -> MatrixAnswer
-    ensures { λ r. ⌜ r ≡ matrixOf (answer (on srt entry (uvMatrix track frame)) (now (s .entry))) ⌝ }
+    ensures { λ r. ⌜ matrixAnswerMeans r ≡ told (answer (on srt entry (ofMaterial track (uvMatrix frame))) (now (s .entry))) ⌝ }
 {
     match find_track(s, entry, track) {
         TrackFound::Refused(n) => MatrixAnswer::Refused(n),
@@ -77,31 +73,23 @@ pub fn uv_matrix(s: &[u8], entry: usize, track: usize, frame: u16) -> MatrixAnsw
     }
 }
 
-// A channel of a track, as its curve stands in the entry.
-fn find_channel(s: &[u8], entry: usize, track: usize, channel: usize) -> ChannelFound
-    ensures { λ r. ⌜ ChannelFinds (now (s .entry)) entry track channel r ⌝ }
+// The record of a channel's curve.
+pub fn channel_curve(s: &[u8], entry: usize, track: usize, channel: usize) -> CurveRecord
+    ensures { λ r. ⌜ curveMeans r ≡ told (answer (on srt entry (ofMaterial track (channelCurve channel))) (now (s .entry))) ⌝ }
 {
     match find_track(s, entry, track) {
-        TrackFound::Refused(n) => ChannelFound::Refused(n),
+        TrackFound::Refused(n) => CurveRecord::Refused(n),
         TrackFound::At(t) => {
             if 5 <= channel {
-                return ChannelFound::Refused(9);
+                return CurveRecord::Refused(9);
             }
             let off = t.offset;
             match read_channel(&s[off..], t.datum, channel, 0) {
-                ChannelRead::Refused(n) => ChannelFound::Refused(n),
-                ChannelRead::Whole(curve, _) => ChannelFound::At(off, curve),
+                ChannelRead::Refused(n) => CurveRecord::Refused(n),
+                ChannelRead::Whole(curve, _) => {
+                    CurveRecord::Curve(record_scalar(&s[off..], curve, off))
+                }
             }
         }
-    }
-}
-
-// The record of a channel's curve.
-pub fn channel_curve(s: &[u8], entry: usize, track: usize, channel: usize) -> CurveRecord
-    ensures { λ r. ⌜ r ≡ curveOf (answer (on srt entry (channelCurve track channel)) (now (s .entry))) ⌝ }
-{
-    match find_channel(s, entry, track, channel) {
-        ChannelFound::Refused(n) => CurveRecord::Refused(n),
-        ChannelFound::At(off, curve) => CurveRecord::Curve(record_scalar(curve, off)),
     }
 }

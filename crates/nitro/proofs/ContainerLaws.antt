@@ -1,5 +1,5 @@
 -- A section has one kind at most; an entry is read from its offset onward. Assumes nothing.
-use Prim.Native.Nat.{ℕ, _+_, _*_, _≤_, _<_}
+use Prim.Native.Nat.{ℕ, _+_, _*_, max, _≤_, _<_}
 use mathlib.Core.Bool.{Bool, true, false, cond}
 use mathlib.Core.List.{List, [], _∷_}
 use mathlib.Core.Logic.{_⊎_, inl, inr, ⊎-elim}
@@ -12,18 +12,20 @@ use Rattle.util.specs.View.{little, wordAt, same}
 use Rattle.util.specs.Reader.{Reader, done, Outcome, accepted, refused, ends, run, bind, unless, Verdict, answered, denied, tell}
 use Rattle.util.specs.Place.{within, moved, raised}
 use Rattle.util.proofs.Calls.{after, run-bind-as}
-use Rattle.util.proofs.Cut.{le-or-lt, had, had-part, short, max-right, to}
-use Rattle.util.proofs.Place.{run-raised, run-within}
+use Rattle.util.proofs.ReadsLaws.{goes-on}
+use Rattle.util.proofs.Cut.{le-or-lt, had, had-part, short, max-right}
+use Rattle.util.proofs.Place.{run-within}
 use Rattle.util.proofs.ViewLaws.{same-like, view-there}
 use Rattle.info_block.specs.declared.InfoBlock.{InfoBlock}
 use Rattle.info_block.specs.declared.BlockRead.{BlockRead}
 use Rattle.animation.specs.Animation.{animation}
 use Rattle.material_animation.specs.MaterialAnimation.{materialAnimation}
 use Rattle.pattern.specs.Pattern.{pattern}
-use Rattle.info_block.specs.InfoBlock.{infoBlock, blockAt, BlockIs}
+use Rattle.info_block.specs.InfoBlock.{infoBlock}
+use Rattle.info_block.specs.InfoBlockCode.{blockAt}
 use Rattle.nitro.specs.Container.{Kind, jnt, srt, pat, stampOf, allKinds, kindOf, stamped, section, Value, value, Entry, entryIn, entry}
-use Rattle.nitro.specs.ContainerCode.{WholeHeader, HeaderIs, entryFrom, EntryStands}
-use Rattle.info_block.proofs.InfoBlockLaws.{block-ends}
+use Rattle.nitro.specs.declared.container.EntryFound.{EntryFound}
+use Rattle.nitro.specs.ContainerCode.{HeaderReads, entryFrom, EntryReads}
 
 -- equal stamps are of one kind
 kind-like : (ks : List Kind) (a b : List ℕ) → same 4 a b ≡ true → kindOf ks a ≡ kindOf ks b
@@ -180,26 +182,18 @@ module _ (s : List ℕ) where
   unfolding run bind section
   size-short h = short _ _ _ h
 
-  header-run : 8 ≤ length s → run section s 4 ≡ raised 8 (run (infoBlock 8 4) s 0)
+  pub header-run : 8 ≤ length s → run section s 4 ≡ run (infoBlock 8 4) s 8
   unfolding run bind section
-  header-run h = had _ _ _ _ h (run-raised (infoBlock 8 4) s 8)
-
-  pub header-read : 8 ≤ length s → (r : BlockRead) → BlockIs s 8 4 r → HeaderIs s r
-  unfolding raised
-  header-read h (BlockRead.Whole b) w =
-      let e = block-ends 8 4 s (b .end) _ (w .reads) in
-      record { block = w; reads = header-run h ∙ (ap (raised 8) (w .reads) ∙ to _ _ _ (max-right 8 (b .end) (omega arith))) }
-  header-read h (BlockRead.Refused n) w = header-run h ∙ ap (raised 8) w
-
-pub header-refused : (s : List ℕ) (i n : ℕ) → run section s 4 ≡ refused n → (k : Kind) → run (entry k i) s 4 ≡ refused n
-unfolding entry after
-header-refused s i n e k = run-bind-as section (entryIn k i) s 4 (refused n) e
+  header-run h = had _ _ _ _ h refl
 
 -- an entry of a section whose header is whole
-module _ (s : List ℕ) (i : ℕ) (b : InfoBlock) (w : WholeHeader s b) where
+module _ (s : List ℕ) (i : ℕ) (b : InfoBlock) (w : HeaderReads s (BlockRead.Whole b)) where
+  block-end : max 8 (b .end) ≡ b .end
+  block-end = let x = w .holds in max-right 8 (b .end) (omega arith)
+
   in-block : (k : Kind) → run (entry k i) s 4 ≡ run (entryIn k i (blockAt s 4 b)) s (b .end)
-  unfolding entry after
-  in-block k = run-bind-as section (entryIn k i) s 4 (accepted (b .end) (blockAt s 4 b)) (w .reads)
+  unfolding entry
+  in-block k = goes-on section (entryIn k i) s 4 _ _ (w .reads) ∙ ap (run (entryIn k i (blockAt s 4 b)) s) block-end
 
   pub no-entry : b .count ≤ i → (k : Kind) → run (entry k i) s 4 ≡ refused 9
   unfolding run bind entryIn unless
@@ -207,10 +201,10 @@ module _ (s : List ℕ) (i : ℕ) (b : InfoBlock) (w : WholeHeader s b) where
 
   module _ (h : i < b .count) where
     pub name-place : b .names + 16 * i + 16 ≤ length s
-    name-place = let x = w .block .names-end in let y = w .block .inside in omega arith
+    name-place = let x = w .holds in omega arith
 
     pub datum-place : b .datums + 4 * i + 4 ≤ length s
-    datum-place = let x = w .block .datums-end in let y = w .block .names-end in let z = w .block .inside in omega arith
+    datum-place = let x = w .holds in omega arith
 
     offset-at : little (getD (blockAt s 4 b .datums) i []) ≡ wordAt 4 s (b .datums + 4 * i)
     offset-at = ap little (view-there 4 (λ bs. bs) (b .count) i (b .datums) s [] h)
@@ -241,5 +235,5 @@ module _ (s : List ℕ) (i : ℕ) (b : InfoBlock) (w : WholeHeader s b) where
         run-bind-as (within off (value k)) (λ v. done (record { name = take 16 (drop (b .names + 16 * i) s); offset = off; held = v })) s (b .end) _ (value-within k off s (b .end))
         ∙ by-outcome k off (run (value k) (drop off s) 0)
 
-    pub entry-stands : (off : ℕ) → off ≡ wordAt 4 s (b .datums + 4 * i) → off < 4294967296 → EntryStands s i (record { offset = off; name = b .names + 16 * i; end = b .end })
-    entry-stands off e l = record { reads = λ k. in-block k ∙ (found off e k ∙ placed k off); name-inside = name-place; end-inside = w .block .inside; near = l }
+    pub entry-stands : (off : ℕ) → off ≡ wordAt 4 s (b .datums + 4 * i) → EntryReads s i (EntryFound.At (record { offset = off; name = b .names + 16 * i; end = b .end }))
+    entry-stands off e k = record { reads = in-block k ∙ (found off e k ∙ placed k off); holds = (name-place, w .holds .inside) }

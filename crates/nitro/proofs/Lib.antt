@@ -1,4 +1,3 @@
 pub mod ContainerLaws
 pub mod FiniteLaws
 pub mod EntryLaws
-pub mod NameLaws

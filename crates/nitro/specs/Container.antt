@@ -80,10 +80,10 @@ pub record EntryRecord : Type 0 where
   pub frames : ℕ
   pub count : ℕ
 
-abbrev pub framesOf : (k : Kind) → Value k → ℕ
-framesOf jnt v = v .frames
-framesOf srt v = v .frames
-framesOf pat v = v .frames
+abbrev pub frameCount : (k : Kind) → Value k → ℕ
+frameCount jnt v = v .frames
+frameCount srt v = v .frames
+frameCount pat v = v .frames
 
 abbrev pub countOf : (k : Kind) → Value k → ℕ
 countOf jnt v = length (v .objects)
@@ -91,4 +91,4 @@ countOf srt v = length (v .tracks)
 countOf pat v = length (v .tracks)
 
 abbrev pub recordOf : (k : Kind) → Entry k → EntryRecord
-recordOf k e = record { name = e .name; frames = framesOf k (e .held); count = countOf k (e .held) }
+recordOf k e = record { name = e .name; frames = frameCount k (e .held); count = countOf k (e .held) }

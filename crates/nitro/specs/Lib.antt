@@ -1,4 +1,3 @@
 pub mod Container
 pub mod ContainerCode
 pub mod EntryCode
-pub mod NameCode

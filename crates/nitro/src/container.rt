@@ -4,11 +4,11 @@ use info_block::InfoBlock;
 use util::view::starts_with;
 use util::view::word32;
 ghost use mathlib.Core.Path.{_≡_};
-ghost use Prim.Native.Nat.{_+_, _*_, _<_, _≤_};
+ghost use Prim.Native.Nat.{_≤_};
 ghost use lib.ListN.{length};
 ghost use Rattle.util.specs.Reader.{run};
 ghost use Rattle.nitro.specs.Container.{allKinds, stamped};
-ghost use Rattle.nitro.specs.ContainerCode.{stampMeans, HeaderIs, WholeHeader, EntryIs};
+ghost use Rattle.nitro.specs.ContainerCode.{stampMeans, HeaderReads, EntryReads};
 
 pub enum Kind {
     Jnt,
@@ -43,7 +43,7 @@ pub fn read_stamp(s: &[u8]) -> StampRead
 // The rest of the section's header: the size, which is not used, and the info block.
 pub fn read_section(s: &[u8]) -> BlockRead
     requires { ⌜ 4 ≤ length (now s) ⌝ }
-    ensures { λ r. ⌜ HeaderIs (now (s .entry)) r ⌝ }
+    ensures { λ r. ⌜ HeaderReads (now (s .entry)) r ⌝ }
 {
     if s.len() < 8 {
         return BlockRead::Refused(2);
@@ -53,7 +53,7 @@ pub fn read_section(s: &[u8]) -> BlockRead
 
 // Where an entry stands, where its name does, and where the section's info block ends.
 pub struct EntryAt {
-    pub offset: usize,
+    pub offset: u32,
     pub name: usize,
     pub end: usize,
 }
@@ -66,7 +66,7 @@ pub enum EntryFound {
 // Entry i of a section whose stamp has been read.
 pub fn find_entry(s: &[u8], i: usize) -> EntryFound
     requires { ⌜ 4 ≤ length (now s) ⌝ }
-    ensures { λ r. ⌜ EntryIs (now (s .entry)) i r ⌝ }
+    ensures { λ r. ⌜ EntryReads (now (s .entry)) i r ⌝ }
 {
     match read_section(s) {
         BlockRead::Refused(n) => EntryFound::Refused(n),
@@ -76,14 +76,14 @@ pub fn find_entry(s: &[u8], i: usize) -> EntryFound
 
 // Entry i of an info block.
 fn entry_in(s: &[u8], b: InfoBlock, i: usize) -> EntryFound
-    requires { ⌜ WholeHeader (now s) b ⌝ }
-    ensures { λ r. ⌜ EntryIs (now (s .entry)) i r ⌝ }
+    requires { ⌜ HeaderReads (now s) (BlockRead.Whole b) ⌝ }
+    ensures { λ r. ⌜ EntryReads (now (s .entry)) i r ⌝ }
 {
     if b.count <= i {
         return EntryFound::Refused(9);
     }
     EntryFound::At(EntryAt {
-        offset: word32(s, b.datums + 4 * i) as usize,
+        offset: word32(s, b.datums + 4 * i),
         name: b.names + 16 * i,
         end: b.end,
     })

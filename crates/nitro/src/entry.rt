@@ -8,35 +8,25 @@ use crate::container::read_stamp;
 use animation::Animation;
 use animation::AnimationRead;
 use animation::read_animation;
-use info_block::InfoBlock;
+use info_block::name::Name;
+use info_block::name::name_at;
 use material_animation::MatAnimRead;
+use material_animation::MaterialAnimation;
 use material_animation::read_mat_anim;
+use pattern::Pattern;
 use pattern::PatternRead;
 use pattern::read_pattern;
 use util::cur::greater;
-use util::view::word64;
 ghost use mathlib.Core.Path.{_≡_};
-ghost use Prim.Native.Nat.{_+_, _*_, _≤_};
-ghost use lib.ListN.{length, take, drop};
+ghost use Prim.Native.Nat.{_≤_};
+ghost use lib.ListN.{length};
 ghost use Rattle.util.specs.Reader.{accepted, done, bind, run};
-ghost use Rattle.util.specs.View.{view};
 ghost use Rattle.nitro.specs.Container.{allKinds, stamped, entry, recordOf};
-ghost use Rattle.nitro.specs.ContainerCode.{kindMeans, EntryStands};
-ghost use Rattle.nitro.specs.EntryCode.{nameOf, nameAmong, checkOf, kindNumber, sameKind, ValueIs, OpenIs, AnimationOpenIs};
+ghost use Rattle.nitro.specs.ContainerCode.{kindMeans, EntryReads};
+ghost use Rattle.nitro.specs.EntryCode.{checkMeans, kindNumber, sameKind, ValueIs, OpenReads, AnimationOpens, MaterialOpens, PatternOpens};
 
-// A name's sixteen bytes: the first eight and the last eight, as little-endian words.
-pub struct Name {
-    pub lo: u64,
-    pub hi: u64,
-}
-
-pub enum NameAnswer {
-    Name(Name),
-    Refused(u8),
-}
-
-// The record of an entry; `count` is how many objects or tracks it has.
-pub struct EntryRecord {
+// What the check finds of a whole entry: its record and its reach. `count` is how many objects or tracks it has.
+pub struct Checked {
     pub name: Name,
     pub reach: usize,
     pub frames: u16,
@@ -44,7 +34,7 @@ pub struct EntryRecord {
 }
 
 pub enum EntryCheck {
-    Whole(EntryRecord),
+    Whole(Checked),
     Refused(u8),
 }
 
@@ -58,28 +48,6 @@ pub struct Held {
 pub enum ValueRead {
     Whole(Held),
     Refused(u8),
-}
-
-// The name at a position.
-pub fn name_at(s: &[u8], p: usize) -> Name
-    requires { ⌜ p + 16 ≤ length (now s) ⌝ }
-    ensures { λ r. ⌜ r ≡ nameOf (take 16 (drop p (now (s .entry)))) ⌝ }
-{
-    Name {
-        lo: word64(s, p),
-        hi: word64(s, p + 8),
-    }
-}
-
-// Name i of the info block of an entry; 9 if it has no such name.
-pub fn name_in(s: &[u8], offset: usize, block: InfoBlock, i: usize) -> NameAnswer
-    requires { ⌜ offset + (block .names + 16 * block .count) ≤ length (now s) ⌝ }
-    ensures { λ r. ⌜ r ≡ nameAmong (view 16 (λ bs. bs) (block .count) (drop (block .names) (drop offset (now (s .entry))))) i ⌝ }
-{
-    if block.count <= i {
-        return NameAnswer::Refused(9);
-    }
-    NameAnswer::Name(name_at(s, offset + (block.names + 16 * i)))
 }
 
 fn read_jnt(s: &[u8]) -> ValueRead
@@ -134,16 +102,16 @@ fn read_value(s: &[u8], kind: Kind) -> ValueRead
 
 // The entry that stands here.
 fn check_at(s: &[u8], kind: Kind, i: usize, e: EntryAt) -> EntryCheck
-    requires { ⌜ EntryStands (now s) i e ⌝ }
-    ensures { λ r. ⌜ r ≡ checkOf (run (bind (entry (kindMeans kind) i) (λ x. done (recordOf (kindMeans kind) x))) (now (s .entry)) 4) ⌝ }
+    requires { ⌜ EntryReads (now s) i (EntryFound.At e) ⌝ }
+    ensures { λ r. ⌜ checkMeans r ≡ run (bind (entry (kindMeans kind) i) (λ x. done (recordOf (kindMeans kind) x))) (now (s .entry)) 4 ⌝ }
 {
-    let off = e.offset;
+    let off = e.offset as usize;
     if s.len() < off {
         return EntryCheck::Refused(2);
     }
     match read_value(&s[off..], kind) {
         ValueRead::Refused(n) => EntryCheck::Refused(n),
-        ValueRead::Whole(h) => EntryCheck::Whole(EntryRecord {
+        ValueRead::Whole(h) => EntryCheck::Whole(Checked {
             name: name_at(s, e.name),
             reach: greater(e.end, off + h.reach),
             frames: h.frames,
@@ -155,7 +123,7 @@ fn check_at(s: &[u8], kind: Kind, i: usize, e: EntryAt) -> EntryCheck
 // Entry i of a section whose stamp has been read.
 pub fn check_entry(s: &[u8], kind: Kind, i: usize) -> EntryCheck
     requires { ⌜ 4 ≤ length (now s) ⌝ }
-    ensures { λ r. ⌜ r ≡ checkOf (run (bind (entry (kindMeans kind) i) (λ x. done (recordOf (kindMeans kind) x))) (now (s .entry)) 4) ⌝ }
+    ensures { λ r. ⌜ checkMeans r ≡ run (bind (entry (kindMeans kind) i) (λ x. done (recordOf (kindMeans kind) x))) (now (s .entry)) 4 ⌝ }
 {
     match find_entry(s, i) {
         EntryFound::Refused(n) => EntryCheck::Refused(n),
@@ -182,7 +150,7 @@ fn kind_number(k: Kind) -> u8
 
 // Entry i of a section of this kind, at an offset inside the section.
 pub fn open(s: &[u8], kind: Kind, i: usize) -> EntryFound
-    ensures { λ r. ⌜ OpenIs (kindMeans kind) (now (s .entry)) i r ⌝ }
+    ensures { λ r. ⌜ OpenReads (kindMeans kind) (now (s .entry)) i r ⌝ }
 {
     match read_stamp(s) {
         StampRead::Refused(n) => EntryFound::Refused(n),
@@ -199,12 +167,12 @@ pub fn open(s: &[u8], kind: Kind, i: usize) -> EntryFound
 // The same, once the stamp has been read.
 fn open_stamped(s: &[u8], kind: Kind, i: usize) -> EntryFound
     requires { ⌜ run (stamped allKinds) (now s) 0 ≡ accepted 4 (kindMeans kind) ⌝ }
-    ensures { λ r. ⌜ OpenIs (kindMeans kind) (now (s .entry)) i r ⌝ }
+    ensures { λ r. ⌜ OpenReads (kindMeans kind) (now (s .entry)) i r ⌝ }
 {
     match find_entry(s, i) {
         EntryFound::Refused(n) => EntryFound::Refused(n),
         EntryFound::At(e) => {
-            let off = e.offset;
+            let off = e.offset as usize;
             if s.len() < off {
                 return EntryFound::Refused(2);
             }
@@ -213,22 +181,65 @@ fn open_stamped(s: &[u8], kind: Kind, i: usize) -> EntryFound
     }
 }
 
-// A JNT0 entry that is whole: where it stands, and what is known of it.
+// An entry that is whole: where it stands, and what is known of it.
 pub enum AnimationOpen {
     At(EntryAt, Animation),
     Refused(u8),
 }
 
+pub enum MaterialOpen {
+    At(EntryAt, MaterialAnimation),
+    Refused(u8),
+}
+
+pub enum PatternOpen {
+    At(EntryAt, Pattern),
+    Refused(u8),
+}
+
+// Entry i of a JNT0 section.
 pub fn open_animation(s: &[u8], i: usize) -> AnimationOpen
-    ensures { λ r. ⌜ AnimationOpenIs (now (s .entry)) i r ⌝ }
+    ensures { λ r. ⌜ AnimationOpens (now (s .entry)) i r ⌝ }
 {
     match open(s, Kind::Jnt, i) {
         EntryFound::Refused(n) => AnimationOpen::Refused(n),
         EntryFound::At(e) => {
-            let off = e.offset;
+            let off = e.offset as usize;
             match read_animation(&s[off..]) {
                 AnimationRead::Refused(n) => AnimationOpen::Refused(n),
                 AnimationRead::Whole(a) => AnimationOpen::At(e, a),
+            }
+        }
+    }
+}
+
+// Entry i of an SRT0 section.
+pub fn open_material(s: &[u8], i: usize) -> MaterialOpen
+    ensures { λ r. ⌜ MaterialOpens (now (s .entry)) i r ⌝ }
+{
+    match open(s, Kind::Srt, i) {
+        EntryFound::Refused(n) => MaterialOpen::Refused(n),
+        EntryFound::At(e) => {
+            let off = e.offset as usize;
+            match read_mat_anim(&s[off..]) {
+                MatAnimRead::Refused(n) => MaterialOpen::Refused(n),
+                MatAnimRead::Whole(a) => MaterialOpen::At(e, a),
+            }
+        }
+    }
+}
+
+// Entry i of a PAT0 section.
+pub fn open_pattern(s: &[u8], i: usize) -> PatternOpen
+    ensures { λ r. ⌜ PatternOpens (now (s .entry)) i r ⌝ }
+{
+    match open(s, Kind::Pat, i) {
+        EntryFound::Refused(n) => PatternOpen::Refused(n),
+        EntryFound::At(e) => {
+            let off = e.offset as usize;
+            match read_pattern(&s[off..]) {
+                PatternRead::Refused(n) => PatternOpen::Refused(n),
+                PatternRead::Whole(a) => PatternOpen::At(e, a),
             }
         }
     }

@@ -13,18 +13,20 @@ use lib.Seq.{drop-cons}
 use Rattle.util.specs.View.{wordAt, view}
 use Rattle.util.specs.declared.cur.Reach.{Reach}
 use Rattle.util.specs.declared.cur.Reach.the-variants.{Whole, Refused}
-use Rattle.util.specs.Reader.{Reader, done, Outcome, accepted, refused, run, bind, each, unless, reachOf}
-use Rattle.util.specs.Place.{raised}
+use Rattle.util.specs.Reader.{Reader, done, accepted, refused, run, bind, each, unless}
+use Rattle.util.specs.ReaderCode.{reachOf}
 use Rattle.util.proofs.Cut.{le-or-lt, had, short, past, no-further}
-use Rattle.util.proofs.Place.{run-raised}
-use Rattle.util.proofs.Calls.{after, run-bind-as}
-use Rattle.util.proofs.Each.{rest, next, ended, all, whole-of, refused-of, from-zero, each-read}
+use Rattle.util.proofs.ReadsLaws.{goes-on, stops, one-value, not-both}
+use Rattle.util.proofs.Each.{whole-of, refused-of, from-zero, items-read}
 use Rattle.util.proofs.ViewLaws.{word-part, view-there, view-length, view-take}
 use Rattle.info_block.specs.declared.InfoBlock.{InfoBlock}
-use Rattle.pattern.specs.declared.NameList.{NameList}
+use Rattle.info_block.specs.declared.BlockRead.{BlockRead}
+use Rattle.pattern.specs.declared.ItemList.{ItemList}
 use Rattle.pattern.specs.declared.Pattern.{Pattern as Known}
-use Rattle.info_block.specs.InfoBlock.{Block, infoBlock, blockAt, WholeBlock}
-use Rattle.pattern.specs.Pattern.{Key, Track, Pattern, keyOf, inside, track, pattern, firstLater, choice, NamesAt, WholePattern}
+use Rattle.info_block.specs.InfoBlock.{Block, infoBlock}
+use Rattle.info_block.specs.InfoBlockCode.{blockAt, BlockReads}
+use Rattle.pattern.specs.Pattern.{Key, Track, Pattern, keyOf, inside, track, pattern, firstLater, choice}
+use Rattle.pattern.specs.PatternCode.{namesMean, ListedAt, WholePattern}
 
 -- ---- keys
 
@@ -95,72 +97,41 @@ module _ (s : List ℕ) (place count : ℕ) where
 
 -- ---- a track
 
-module _ (textures palettes : ℕ) (s : List ℕ) (datum m place count : ℕ) (p : place ≡ wordAt 2 s (datum + 6)) (n : count ≡ wordAt 4 s datum) where
-  where-at : wordAt 2 (take 8 (drop datum s)) 6 ≡ place
-  where-at = word-part 2 8 datum 6 s (omega arith) ∙ sym p
+-- .. whose datum stands at `datum`, with the keys l
+module _ (textures palettes : ℕ) (s : List ℕ) (datum m : ℕ) (l : ItemList) (w : ListedAt s (datum + 6) 4 datum l) where
+  abbrev datumTrack : Reader Track
+  datumTrack = track textures palettes (take 8 (drop datum s))
 
-  how-many : wordAt 4 (take 8 (drop datum s)) 0 ≡ count
-  how-many = word-part 4 8 datum 0 s (omega arith) ∙ (rw (add-zero datum) (sym n))
+  where-at : wordAt 2 (take 8 (drop datum s)) 6 ≡ l .place
+  where-at = word-part 2 8 datum 6 s (omega arith) ∙ sym (w .place)
 
-  pub track-short : length s < place + 4 * count → run (track textures palettes (take 8 (drop datum s))) s m ≡ refused 2
+  how-many : wordAt 4 (take 8 (drop datum s)) 0 ≡ l .count
+  how-many = word-part 4 8 datum 0 s (omega arith) ∙ (rw (add-zero datum) (sym (w .count)))
+
+  pub track-short : length s < l .place + 4 * l .count → run datumTrack s m ≡ refused 2
   unfolding run bind track
   track-short h = rw (where-at, how-many) (short _ _ _ h)
 
-  module _ (h : place + 4 * count ≤ length s) (b : Bool) (e : b ≡ inside textures palettes (keys s place count)) where
-    pub track-outside : b ≡ false → run (track textures palettes (take 8 (drop datum s))) s m ≡ refused 8
+  module _ (h : l .place + 4 * l .count ≤ length s) (b : Bool) (e : b ≡ inside textures palettes (keys s (l .place) (l .count))) where
+    pub track-outside : b ≡ false → run datumTrack s m ≡ refused 8
     unfolding run bind track unless
-    track-outside q = rw (where-at, how-many, view-take 4 keyOf count (drop place s), ← e, q) (had _ _ _ _ h refl)
+    track-outside q = rw (where-at, how-many, view-take 4 keyOf (l .count) (drop (l .place) s), ← e, q) (had _ _ _ _ h refl)
 
-    pub track-whole : b ≡ true
-        → run (track textures palettes (take 8 (drop datum s))) s m ≡ accepted (max m (place + 4 * count)) (record { place = place; keys = keys s place count })
+    pub track-whole : b ≡ true → run datumTrack s m ≡ accepted (max m (l .place + 4 * l .count)) (record { place = l .place; keys = keys s (l .place) (l .count) })
     unfolding run bind track unless
-    track-whole q = rw (where-at, how-many, view-take 4 keyOf count (drop place s), ← e, q) (had _ _ _ _ h refl)
+    track-whole q = rw (where-at, how-many, view-take 4 keyOf (l .count) (drop (l .place) s), ← e, q) (had _ _ _ _ h refl)
 
   -- a track that is accepted: its keys stand in the section
-  module _ (t : Track) (r : ℕ) (a : run (track textures palettes (take 8 (drop datum s))) s m ≡ accepted r t) where
-    not-refused : (e : ℕ) → run (track textures palettes (take 8 (drop datum s))) s m ≡ refused e → ⊥
-    not-refused e q = let z : _≡_ {A = ℕ} 0 1 = cc in omega arith
+  module _ (t : Track) (r : ℕ) (a : run datumTrack s m ≡ accepted r t) where
+    pub track-keys-end : l .place + 4 * l .count ≤ length s
+    track-keys-end = ⊎-elim (λ (h : l .place + 4 * l .count ≤ length s). h) (λ (h : length s < l .place + 4 * l .count). absurd (not-both a (track-short h))) (le-or-lt (l .place + 4 * l .count) (length s))
 
-    pub track-keys-end : place + 4 * count ≤ length s
-    track-keys-end = ⊎-elim (λ (h : place + 4 * count ≤ length s). h) (λ (h : length s < place + 4 * count). absurd (not-refused 2 (track-short h))) (le-or-lt (place + 4 * count) (length s))
-
-    pub track-is : t ≡ record { place = place; keys = keys s place count }
-    track-is = go (inside textures palettes (keys s place count)) refl
+    pub track-is : t ≡ record { place = l .place; keys = keys s (l .place) (l .count) }
+    track-is = go (inside textures palettes (keys s (l .place) (l .count))) refl
       where
-        go : (b : Bool) → b ≡ inside textures palettes (keys s place count) → t ≡ record { place = place; keys = keys s place count }
-        go true e = let q = track-whole track-keys-end true e refl in cc
-        go false e = absurd (not-refused 8 (track-outside track-keys-end false e refl))
-
--- ---- the tracks
-
-module _ (textures palettes : ℕ) (s : List ℕ) (datums count : ℕ) where
-  abbrev pub datumList : List (List ℕ)
-  datumList = view 8 (λ bs. bs) count (drop datums s)
-
-  -- what is left of the tracks from track i on, after parts that reach as far as m
-  abbrev pub left : ℕ → ℕ → Reach
-  left i m = rest (track textures palettes) s datumList [] i m
-
-  datums-length : length datumList ≡ count
-  datums-length = view-length 8 (λ bs. bs) count (drop datums s)
-
-  pub none-left : (i m : ℕ) → count ≤ i → left i m ≡ Whole m
-  none-left i m h = all (track textures palettes) s datumList [] i m (rw datums-length h)
-
-  module _ (i m : ℕ) (h : i < count) (o : Reach) (e : o ≡ reachOf (run (track textures palettes (take 8 (drop (datums + 8 * i) s))) s m)) where
-    in-list : i < length datumList
-    in-list = rw datums-length h
-
-    datum-there : reachOf (run (track textures palettes (getD datumList i [])) s m) ≡ o
-    datum-there = rw (view-there 8 (λ bs. bs) count i datums s [] h) (sym e)
-
-    -- track i is whole: go on
-    pub next-track : (j : ℕ) → o ≡ Whole j → left i m ≡ left (i + 1) j
-    next-track j q = next (track textures palettes) s datumList [] i m j in-list (datum-there ∙ q)
-
-    -- track i is refused, and so are the tracks
-    pub refused-track : (n : ℕ) → o ≡ Refused n → left i m ≡ Refused n
-    refused-track n q = ended (track textures palettes) s datumList [] i m n in-list (datum-there ∙ q)
+        go : (b : Bool) → b ≡ inside textures palettes (keys s (l .place) (l .count)) → t ≡ record { place = l .place; keys = keys s (l .place) (l .count) }
+        go true e = one-value a (track-whole track-keys-end true e refl)
+        go false e = absurd (not-both a (track-outside track-keys-end false e refl))
 
 -- ---- the entry
 
@@ -169,7 +140,7 @@ unfolding run bind pattern
 header-short s h = past _ _ _ (past _ _ _ (past _ _ _ (past _ _ _ (past _ _ _ (short _ _ _ h)))))
 
 -- an entry of the texture names t and the palette names p
-module _ (s : List ℕ) (t p : NameList) (et : NamesAt s 6 8 t) (ep : NamesAt s 7 10 p) where
+module _ (s : List ℕ) (t p : ItemList) (et : ListedAt s 8 1 6 t) (ep : ListedAt s 10 1 7 p) where
   pub textures-short : length s < t .place + 16 * t .count → run pattern s 0 ≡ refused 2
   unfolding run bind pattern
   textures-short h = rw (← et .place, ← et .count) (past _ _ _ (past _ _ _ (past _ _ _ (past _ _ _ (past _ _ _ (past _ _ _ (short _ _ _ h)))))))
@@ -178,95 +149,83 @@ module _ (s : List ℕ) (t p : NameList) (et : NamesAt s 6 8 t) (ep : NamesAt s 
   unfolding run bind pattern
   palettes-short h = rw (← ep .place, ← ep .count) (past _ _ _ (past _ _ _ (past _ _ _ (past _ _ _ (past _ _ _ (past _ _ _ (past _ _ _ (short _ _ _ h))))))))
 
-  -- what is held of the entry
-  abbrev held : Block → List Track → Pattern
-  held block tracks =
-      record {
-        frames = wordAt 2 s 4;
-        textures = record { place = t .place; count = t .count };
-        palettes = record { place = p .place; count = p .count };
-        names = block .names;
-        tracks = tracks;
-      }
+  -- the entry that some tracks make, and what follows its info block
+  abbrev heldOf : Block → List Track → Pattern
+  heldOf block tracks = record { frames = wordAt 2 s 4; textures = namesMean t; palettes = namesMean p; names = block .names; tracks = tracks }
 
   abbrev tracksOf : Block → Reader (List Track)
   tracksOf block = each (track (t .count) (p .count)) (block .datums)
 
-  abbrev onward : Block → Reader Pattern
-  onward block = bind (tracksOf block) (λ tracks. done (held block tracks))
+  abbrev afterBlock : Block → Reader Pattern
+  afterBlock block = bind (tracksOf block) (λ tracks. done (heldOf block tracks))
 
   -- how far the header and the names reach
   abbrev before : ℕ
   before = max (max 12 (t .place + 16 * t .count)) (p .place + 16 * p .count)
 
   module _ (h : 12 ≤ length s) (ht : t .place + 16 * t .count ≤ length s) (hp : p .place + 16 * p .count ≤ length s) where
-    names-had : run pattern s 0 ≡ run (bind (infoBlock 12 8) onward) s before
+    names-had : run pattern s 0 ≡ run (bind (infoBlock 12 8) afterBlock) s before
     unfolding run bind pattern
     names-had =
         rw (← et .place, ← et .count, ← ep .place, ← ep .count)
         (had _ _ _ _ (omega arith) (had _ _ _ _ (omega arith) (had _ _ _ _ (omega arith) (had _ _ _ _ (omega arith) (had _ _ _ _ (omega arith) (had _ _ _ _ (omega arith) (had _ _ _ _ ht (had _ _ _ _ hp refl))))))))
 
-    -- the run goes on from what the block gives
-    block-gives : (o : Outcome Block) → run (infoBlock 12 8) s 0 ≡ o → run pattern s 0 ≡ after (raised before o) (λ m block. run (onward block) s m)
-    block-gives o e = names-had ∙ run-bind-as (infoBlock 12 8) onward s before (raised before o) (run-raised (infoBlock 12 8) s before ∙ ap (raised before) e)
+    pub block-refused : (n : ℕ) → BlockReads s 12 8 before (BlockRead.Refused n) → run pattern s 0 ≡ refused n
+    block-refused n w = names-had ∙ stops _ _ _ _ n (w .reads)
 
-    pub block-refused : (n : ℕ) → run (infoBlock 12 8) s 0 ≡ refused n → run pattern s 0 ≡ refused n
-    unfolding after raised
-    block-refused n e = block-gives (refused n) e
+    module _ (k : InfoBlock) (w : (reach : ℕ) → BlockReads s 12 8 reach (BlockRead.Whole k)) (start : ℕ) (es : start ≡ max before (k .end)) where
+      abbrev block : Block
+      block = blockAt s 8 k
 
-    module _ (k : InfoBlock) (w : WholeBlock s 12 8 k) (start : ℕ) (es : start ≡ max before (k .end)) where
-      -- .. and from what the tracks give
-      tracks-give : (o : Outcome (List Track)) → run (tracksOf (blockAt s 8 k)) s start ≡ o → run pattern s 0 ≡ after o (λ m tracks. accepted m (held (blockAt s 8 k) tracks))
-      unfolding run after raised
-      tracks-give o e =
-          block-gives (accepted (k .end) (blockAt s 8 k)) (w .reads)
-          ∙ run-bind-as (tracksOf (blockAt s 8 k)) (λ tracks. done (held (blockAt s 8 k) tracks)) s (max before (k .end)) o (rw (← es) e)
+      block-read : run pattern s 0 ≡ run (afterBlock block) s start
+      block-read = names-had ∙ (goes-on _ _ _ _ _ _ (w before .reads) ∙ ap (run (afterBlock block) s) (sym es))
 
-      module _ (o : Reach) (e : o ≡ reachOf (run (tracksOf (blockAt s 8 k)) s start)) where
+      module _ (o : Reach) (e : o ≡ reachOf (run (tracksOf block) s start)) where
         pub tracks-refused : (n : ℕ) → o ≡ Refused n → run pattern s 0 ≡ refused n
-        unfolding after
-        tracks-refused n q = tracks-give (refused n) (refused-of (run (tracksOf (blockAt s 8 k)) s start) n (sym e ∙ q))
+        tracks-refused n q = block-read ∙ stops _ _ _ _ n (refused-of _ n (sym e ∙ q))
 
         pub tracks-whole : (f reach : ℕ) → f ≡ wordAt 2 s 4 → o ≡ Whole reach → WholePattern s (record { frames = f; textures = t; palettes = p; block = k; reach = reach })
-        unfolding after
+        unfolding run
         tracks-whole f reach ef q =
-            let r = whole-of (run (tracksOf (blockAt s 8 k)) s start) reach (sym e ∙ q) in
-            let reads : run pattern s 0 ≡ accepted reach (held (blockAt s 8 k) (r .0)) = tracks-give (accepted reach (r .0)) (r .1) in
+            let r = whole-of (run (tracksOf block) s start) reach (sym e ∙ q) in
+            let reads : run pattern s 0 ≡ accepted reach (heldOf block (r .0)) = block-read ∙ goes-on _ _ _ _ _ _ (r .1) in
             record {
-              held = held (blockAt s 8 k) (r .0);
+              held = heldOf block (r .0);
               reads = reads;
               frames = sym ef;
               textures = refl;
-              texture-count = refl;
               textures-inside = ht;
               palettes = refl;
-              palette-count = refl;
               palettes-inside = hp;
-              block = w;
+              block = w 0;
               names = refl;
-              tracks = from-zero (tracksOf (blockAt s 8 k)) s start reach (r .0) (r .1);
-              inside = no-further pattern s 0 reach (held (blockAt s 8 k) (r .0)) reads (omega arith);
+              tracks = from-zero (tracksOf block) s start reach (r .0) (r .1);
+              inside = no-further pattern s 0 reach (heldOf block (r .0)) reads (omega arith);
             }
 
--- ---- a track of a whole entry: its datum stands in the entry, and its keys are those of the entry
+-- ---- a whole entry: each track's datum stands in it, and its keys are those of the entry
 
-module _ (s : List ℕ) (a : Known) (w : WholePattern s a) (i : ℕ) (h : i < a .block .count) where
-  abbrev datum : ℕ
-  datum = a .block .datums + 8 * i
+module _ (s : List ℕ) (a : Known) (w : WholePattern s a) where
+  abbrev trackReader : List ℕ → Reader Track
+  trackReader = track (a .textures .count) (a .palettes .count)
 
-  pub datum-inside : datum + 8 ≤ length s
-  datum-inside = let b = w .block in omega arith
+  tracks-are : (length (w .held .tracks) ≡ a .block .count)
+      × ((i : ℕ) (d : Track) → i < a .block .count → (k : ℕ) × (run (trackReader (take 8 (drop (a .block .datums + 8 * i) s))) s 0 ≡ accepted k (getD (w .held .tracks) i d)))
+  tracks-are = items-read trackReader s 8 (λ bs. bs) (a .block .datums) (a .block .count) [] (w .tracks .0) (w .held .tracks) (w .tracks .1)
 
-  track-run : (d : Track) → (m : ℕ) × (run (track (a .textures .count) (a .palettes .count) (take 8 (drop datum s))) s 0 ≡ accepted m (getD (w .held .tracks) i d))
-  track-run d =
-      let tracks = track (a .textures .count) (a .palettes .count) in
-      let l = datumList (a .textures .count) (a .palettes .count) s (a .block .datums) (a .block .count) in
-      let r = each-read tracks s l 0 (w .tracks .0) (w .held .tracks) (w .tracks .1) .1 i [] d (rw (view-length 8 (λ bs. bs) (a .block .count) (drop (a .block .datums) s)) h) in
-      (r .0, rw (view-there 8 (λ bs. bs) (a .block .count) i (a .block .datums) s [] h) at (r .1))
+  pub track-count : length (w .held .tracks) ≡ a .block .count
+  track-count = tracks-are .0
 
-  module _ (place count : ℕ) (p : place ≡ wordAt 2 s (datum + 6)) (n : count ≡ wordAt 4 s datum) (d : Track) where
-    pub keys-inside : place + 4 * count ≤ length s
-    keys-inside = let r = track-run d in track-keys-end _ _ s datum 0 place count p n _ _ (r .1)
+  module _ (i : ℕ) (h : i < a .block .count) where
+    abbrev datum : ℕ
+    datum = a .block .datums + 8 * i
 
-    pub track-of : getD (w .held .tracks) i d ≡ record { place = place; keys = keys s place count }
-    track-of = let r = track-run d in track-is _ _ s datum 0 place count p n _ _ (r .1)
+    pub datum-inside : datum + 8 ≤ length s
+    datum-inside = let b = w .block .holds in omega arith
+
+    module _ (l : ItemList) (at : ListedAt s (datum + 6) 4 datum l) (d : Track) where
+      pub keys-inside : l .place + 4 * l .count ≤ length s
+      keys-inside = track-keys-end _ _ s datum 0 l at _ _ (tracks-are .1 i d h .1)
+
+      pub track-of : getD (w .held .tracks) i d ≡ record { place = l .place; keys = keys s (l .place) (l .count) }
+      track-of = track-is _ _ s datum 0 l at _ _ (tracks-are .1 i d h .1)

@@ -1,19 +1,13 @@
 -- A PAT0 entry. Positions and offsets count from the entry. Assumes nothing.
-use Prim.Native.Nat.{ℕ, suc, _+_, _-_, _*_, _≤_, _<_}
+use Prim.Native.Nat.{ℕ, suc, _-_, _*_}
 use mathlib.Core.Bool.{Bool, true, _&&_, cond}
 use mathlib.Core.List.{List, [], _∷_}
-use mathlib.Core.Path.{_≡_}
 use lib.Dec.{ltb}
-use lib.ListN.{length, getD}
+use lib.ListN.{getD}
 use Rattle.util.specs.View.{wordAt}
-use Rattle.util.specs.Reader.{Reader, done, _>>=_, _>>_, bytes, word, list, each, unless, accepted, refused, run}
-use Rattle.pattern.specs.declared.NameList.{NameList}
-use Rattle.pattern.specs.declared.Pattern.{Pattern as Known}
-use Rattle.pattern.specs.declared.PatternKeyframe.{PatternKeyframe}
-use Rattle.pattern.specs.declared.PatternRead.{PatternRead}
-use Rattle.pattern.specs.declared.PatternRead.the-variants.{Whole, Refused}
+use Rattle.util.specs.Reader.{Reader, done, _>>=_, _>>_, bytes, word, list, each, unless}
 use Rattle.info_block.specs.Name.{Name}
-use Rattle.info_block.specs.InfoBlock.{infoBlock, blockAt, WholeBlock}
+use Rattle.info_block.specs.InfoBlock.{infoBlock}
 
 -- frame u16, texture u8, palette u8: indexes of the texture names and of the palette names
 pub record Key : Type 0 where
@@ -83,36 +77,3 @@ firstLater (k ∷ ks) frame = cond (ltb frame (k .frame)) 0 (suc (firstLater ks 
 -- The key before that one; key 0 if that one is first (0 - 1 is 0), the last key if none is later. Keys may be unsorted.
 unfoldable pub choice : List Key → Key → ℕ → Key
 choice keys default frame = getD keys (firstLater keys frame - 1) default
-
--- ---- what code answers
-
--- the key that a keyframe is
-abbrev pub asKey : PatternKeyframe → Key
-asKey k = record { frame = k .frame; texture = k .«texture_idx» .0; palette = k .«palette_idx» .0 }
-
--- a list of names whose count, a byte, stands at c and whose offset, a word of two bytes, at p
-pub record NamesAt (s : List ℕ) (c p : ℕ) (n : NameList) : Type 0 where
-  pub place : n .place ≡ wordAt 2 s p
-  pub count : n .count ≡ wordAt 1 s c
-  pub near : n .place < 65536
-  pub few : n .count < 256
-
--- an accepted entry: what is held of it, and where the code says that it stands
-pub record WholePattern (s : List ℕ) (a : Known) : Type 0 where
-  pub held : Pattern
-  pub reads : run pattern s 0 ≡ accepted (a .reach) held
-  pub frames : held .frames ≡ a .frames
-  pub textures : held .textures .place ≡ a .textures .place
-  pub texture-count : held .textures .count ≡ a .textures .count
-  pub textures-inside : a .textures .place + 16 * a .textures .count ≤ length s
-  pub palettes : held .palettes .place ≡ a .palettes .place
-  pub palette-count : held .palettes .count ≡ a .palettes .count
-  pub palettes-inside : a .palettes .place + 16 * a .palettes .count ≤ length s
-  pub block : WholeBlock s 12 8 (a .block)
-  pub names : held .names ≡ blockAt s 8 (a .block) .names
-  pub tracks : (m : ℕ) × (run (each (track (a .textures .count) (a .palettes .count)) (blockAt s 8 (a .block) .datums)) s 0 ≡ accepted m (held .tracks))
-  pub inside : a .reach ≤ length s
-
-abbrev pub PatternIs : List ℕ → PatternRead → Type 0
-PatternIs s (Whole a) = WholePattern s a
-PatternIs s (Refused n) = run pattern s 0 ≡ refused n

@@ -10,9 +10,11 @@ use util::view::word32;
 ghost use mathlib.Core.Path.{_≡_};
 ghost use Prim.Native.Nat.{_+_, _*_, _<_, _≤_};
 ghost use lib.ListN.{length, take, drop};
-ghost use Rattle.util.specs.View.{wordAt, view};
-ghost use Rattle.util.specs.Reader.{run, each, reachOf};
-ghost use Rattle.pattern.specs.Pattern.{Key, keyOf, inside, track, firstLater, choice, asKey, NamesAt, PatternIs};
+ghost use Rattle.util.specs.View.{view};
+ghost use Rattle.util.specs.Reader.{run, each};
+ghost use Rattle.util.specs.ReaderCode.{reachOf};
+ghost use Rattle.pattern.specs.Pattern.{Key, keyOf, inside, track, firstLater, choice};
+ghost use Rattle.pattern.specs.PatternCode.{keyMeans, ListedAt, PatternIs};
 
 // An index of the texture names.
 pub struct TextureIdx(pub u8);
@@ -26,14 +28,8 @@ pub struct PatternKeyframe {
     pub palette_idx: PaletteIdx,
 }
 
-// Where a list of names stands, and how many it has.
-pub struct NameList {
-    pub place: usize,
-    pub count: usize,
-}
-
-// Where a track's keys stand, and how many it has.
-pub struct KeyList {
+// Where a list of names or keys stands, and how many it has.
+pub struct ItemList {
     pub place: usize,
     pub count: usize,
 }
@@ -41,8 +37,8 @@ pub struct KeyList {
 // What is known of a whole entry: its frames, its name lists, its tracks and its reach.
 pub struct Pattern {
     pub frames: u16,
-    pub textures: NameList,
-    pub palettes: NameList,
+    pub textures: ItemList,
+    pub palettes: ItemList,
     pub block: InfoBlock,
     pub reach: usize,
 }
@@ -55,7 +51,7 @@ pub enum PatternRead {
 // Key k of the keys at `place`.
 fn key_at(s: &[u8], place: usize, k: usize) -> PatternKeyframe
     requires { ⌜ place + 4 * k + 4 ≤ length (now s) ⌝ }
-    ensures { λ r. ⌜ asKey r ≡ keyOf (take 4 (drop (place + 4 * k) (now (s .entry)))) ⌝ }
+    ensures { λ r. ⌜ keyMeans r ≡ keyOf (take 4 (drop (place + 4 * k) (now (s .entry)))) ⌝ }
 {
     let at = place + 4 * k;
     PatternKeyframe {
@@ -85,11 +81,11 @@ fn keys_inside(s: &[u8], place: usize, count: usize, textures: usize, palettes: 
 }
 
 // The keys of the track whose datum stands at `datum`.
-pub fn read_track_keys(s: &[u8], datum: usize) -> KeyList
+pub fn read_track_keys(s: &[u8], datum: usize) -> ItemList
     requires { ⌜ datum + 8 ≤ length (now s) ⌝ }
-    ensures { λ r. ⌜ (r .place ≡ wordAt 2 (now (s .entry)) (datum + 6)) × (r .count ≡ wordAt 4 (now (s .entry)) datum) × (r .place < 65536) × (r .count < 4294967296) ⌝ }
+    ensures { λ r. ⌜ ListedAt (now (s .entry)) (datum + 6) 4 datum r ⌝ }
 {
-    KeyList {
+    ItemList {
         place: word16(s, datum + 6) as usize,
         count: word32(s, datum) as usize,
     }
@@ -143,11 +139,11 @@ fn follow_tracks(
 }
 
 // The list of names whose count stands at c and whose offset at p.
-fn read_names(s: &[u8], c: usize, p: usize) -> NameList
+fn read_names(s: &[u8], c: usize, p: usize) -> ItemList
     requires { ⌜ (c + 1 ≤ length (now s)) × (p + 2 ≤ length (now s)) ⌝ }
-    ensures { λ r. ⌜ NamesAt (now (s .entry)) c p r ⌝ }
+    ensures { λ r. ⌜ ListedAt (now (s .entry)) p 1 c r ⌝ }
 {
-    NameList {
+    ItemList {
         place: word16(s, p) as usize,
         count: byte(s, c) as usize,
     }
@@ -216,7 +212,7 @@ fn first_later(s: &[u8], place: usize, count: usize, frame: u16) -> usize
 // The key that holds at a frame, of the `count` keys at `place`: the one before the first of a later frame, which is key 0 if that is first.
 pub fn sample(s: &[u8], place: usize, count: usize, frame: u16) -> PatternKeyframe
     requires { ⌜ (place + 4 * count ≤ length (now s)) × (1 ≤ count) ⌝ }
-    ensures { λ r. ⌜ ((default : Key) → asKey r ≡ choice (view 4 keyOf count (drop place (now (s .entry)))) default frame) ⌝ }
+    ensures { λ r. ⌜ ((default : Key) → keyMeans r ≡ choice (view 4 keyOf count (drop place (now (s .entry)))) default frame) ⌝ }
 {
     let later = first_later(s, place, count, frame);
     if later == 0 {

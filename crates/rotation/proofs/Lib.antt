@@ -1,1 +1,2 @@
 pub mod RotationLaws
+pub mod MagnitudeLaws

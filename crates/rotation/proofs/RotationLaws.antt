@@ -16,18 +16,18 @@ use Rattle.util.specs.Bits.{bits}
 use Rattle.util.proofs.ViewLaws.{map-at}
 use Rattle.rotation.specs.declared.Five.{Five}
 use Rattle.matrix.specs.Matrix.{f0}
-use Rattle.rotation.specs.Rotation.{Place, Z, O, A, B, C, D, rows, letter, placed, put, joined}
+use Rattle.rotation.specs.Rotation.{Cell, Z, O, A, B, C, D, rows, letter, placed, put, joined}
 
 -- ---- the table
 
 abbrev table : List (List ℕ)
 table = map (map letter) rows
 
-nines : List (List Place) → Bool
+nines : List (List Cell) → Bool
 nines [] = true
 nines (r ∷ rs) = eqb (length r) 9 && nines rs
 
-nine : (rs : List (List Place)) → T (nines rs) → (s : ℕ) → s < length rs → length (getD rs s []) ≡ 9
+nine : (rs : List (List Cell)) → T (nines rs) → (s : ℕ) → s < length rs → length (getD rs s []) ≡ 9
 unfolding nines
 nine [] t s h = absurd (not-suc-le-zero h)
 nine (r ∷ rs) t zero h = eqb→eq (length r) 9 (and-l (eqb (length r) 9) (nines rs) t)
@@ -42,7 +42,7 @@ rule s k h l =
 abbrev byLetter : ℕ → Float → Float → Float → Float → Float → Float
 byLetter n o a b c d = cond (eqb n 111) o (cond (eqb n 97) a (cond (eqb n 98) b (cond (eqb n 99) c (cond (eqb n 100) d f0))))
 
-spelled : (p : Place) (o a b c d : Float) → byLetter (letter p) o a b c d ≡ put p o a b c d
+spelled : (p : Cell) (o a b c d : Float) → byLetter (letter p) o a b c d ≡ put p o a b c d
 spelled Z o a b c d = refl
 spelled O o a b c d = refl
 spelled A o a b c d = refl

@@ -14,11 +14,11 @@ use Rattle.matrix.specs.Matrix.{f0, f1, col3, cross}
 -- ---- pivot_mat
 
 -- what stands at a place of the matrix: one of the five values, or +0
-pub data Place : Type 0 where
-  Z O A B C D : Place
+pub data Cell : Type 0 where
+  Z O A B C D : Cell
 
 -- by select, column by column
-abbrev pub rows : List (List Place)
+abbrev pub rows : List (List Cell)
 rows =
     (O ∷ Z ∷ Z ∷ Z ∷ A ∷ B ∷ Z ∷ C ∷ D ∷ [])
     ∷ (Z ∷ O ∷ Z ∷ A ∷ Z ∷ B ∷ C ∷ Z ∷ D ∷ [])
@@ -32,7 +32,7 @@ rows =
     ∷ []
 
 -- the letter that a place has in the code's table
-abbrev pub letter : Place → ℕ
+abbrev pub letter : Cell → ℕ
 letter Z = 46
 letter O = 111
 letter A = 97
@@ -40,14 +40,14 @@ letter B = 98
 letter C = 99
 letter D = 100
 
-unfoldable pub placed : ℕ → ℕ → Place
+unfoldable pub placed : ℕ → ℕ → Cell
 placed select k = getD (getD rows select []) k Z
 
 -- x, negated if bit n of `flags` is set; negation flips the sign of zero too
 unfoldable pub turned : ℕ → ℕ → Float → Float
 turned flags n x = cond (bit flags n) (neg x) x
 
-abbrev pub put : Place → Float → Float → Float → Float → Float → Float
+abbrev pub put : Cell → Float → Float → Float → Float → Float → Float
 put Z o a b c d = f0
 put O o a b c d = o
 put A o a b c d = a
@@ -63,12 +63,12 @@ placedCol select k o a b c d = col3 (put (placed select k) o a b c d) (put (plac
 abbrev pub onlyFirst : Float → Mat3
 onlyFirst a = record { c0 = col3 (neg a) f0 f0; c1 = col3 f0 f0 f0; c2 = col3 f0 f0 f0 }
 
--- o is 1, c is b, d is a, each negated by its bit of `flags`
+-- o is 1, c is b, d is a, each negated by its bit of neg
 unfoldable pub pivotMat : ℕ → ℕ → Float → Float → Mat3
-pivotMat select flags a b =
-    let o = turned flags 0 f1 in
-    let c = turned flags 1 b in
-    let d = turned flags 2 a in
+pivotMat select neg a b =
+    let o = turned neg 0 f1 in
+    let c = turned neg 1 b in
+    let d = turned neg 2 a in
     cond (ltb select 9)
     (record { c0 = placedCol select 0 o a b c d; c1 = placedCol select 3 o a b c d; c2 = placedCol select 6 o a b c d })
     (onlyFirst a)

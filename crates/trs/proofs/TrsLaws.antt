@@ -1,73 +1,60 @@
--- Objects of a whole entry, records of curves, and the matrices of a rotation. Assumes nothing.
+-- Objects of a whole entry, and the matrices of a rotation. Assumes nothing.
 use Prim.Native.Nat.{ℕ, _+_, _*_, _≤_, _<_}
-use mathlib.Core.Bool.{Bool, true, false}
 use mathlib.Core.List.{List, map}
 use mathlib.Core.Path.{_≡_, refl, sym, ap, subst, _∙_}
 use native.Mathlib.Nat.{add-zero}
 use native.Mathlib.Omega.{arith}
 use lib.ListN.{length, take, drop, getD, length-map}
-use Rattle.util.specs.Bits.{bits, bit}
+use Rattle.util.specs.Bits.{bits}
 use Rattle.util.specs.Fixed.{fix1-3-12, fixed}
 use Rattle.util.specs.View.{little, wordAt, view}
-use Rattle.util.specs.Reader.{accepted, run}
+use Rattle.util.specs.Reader.{Reader, accepted, run}
 use Rattle.util.proofs.Each.{each-read}
+use Rattle.util.proofs.ReadsLaws.{known}
 use Rattle.util.proofs.ViewLaws.{map-at, view-length, view-there, word-part}
-use Rattle.curve.specs.declared.ScalarCurve.{ScalarCurve}
-use Rattle.curve.specs.Curve.{none, numberOf, scalarCurve, recorded, Inside}
 use Rattle.matrix.specs.declared.Mat3.{Mat3}
 use Rattle.rotation.specs.Rotation.{pivotMat, basisMat}
+use Rattle.curve.specs.declared.SampleList.{SampleList}
 use Rattle.animation.specs.declared.Animation.{Animation as Known}
 use Rattle.animation.specs.declared.Tables.{Tables}
 use Rattle.animation.specs.declared.TRSCurves.{TRSCurves}
 use Rattle.animation.specs.declared.ObjectRead.{ObjectRead}
-use Rattle.curve.specs.declared.SampleList.{SampleList}
-use Rattle.animation.specs.declared.RotationCurve.{RotationCurve}
-use Rattle.animation.specs.Animation.{Object, noAxes, object, pivotOf, basisOf}
-use Rattle.animation.specs.AnimationCode.{tablesAt, objectCurves, ObjectReads, WholeAnimation, matrixOf, referenceEnd, references, rotationCurve, InsideReferences}
-use Rattle.trs.specs.declared.RotationRecord.{RotationRecord}
-use Rattle.trs.specs.declared.ScalarRecord.{ScalarRecord}
-use Rattle.trs.specs.Trs.{ObjectStands, listRecord, scalarRecord, recordedOf, rotationOf, RoomFor}
+use Rattle.animation.specs.Animation.{Object, stillObject, object, pivotOf, basisOf}
+use Rattle.animation.specs.AnimationCode.{tablesAt, objectCurves, ObjectReads, WholeAnimation, matrixFor, referenceEnd, references, InsideReferences}
+use Rattle.trs.specs.TrsCode.{ObjectStands}
+
+-- the object at an offset of the entry s
+abbrev at : List ℕ → ℕ → Reader Object
+at s p = object (wordAt 4 s 12) (wordAt 4 s 16) p
 
 -- object o of a whole entry is read whole
-pub object-whole : (s : List ℕ) (a : Known) (w : WholeAnimation s a) (o : ℕ) (d : Object) → o < a .objects → (k : ℕ) × (run (object (tablesAt s) (wordAt 2 s (20 + 2 * o))) s 0 ≡ accepted k (getD (w .held .objects) o d))
+pub object-whole : (s : List ℕ) (a : Known) (w : WholeAnimation s a) (o : ℕ) (d : Object) → o < a .objects → (k : ℕ) × (run (at s (wordAt 2 s (20 + 2 * o))) s 0 ≡ accepted k (getD (w .held .objects) o d))
 object-whole s a w o d h =
     let offsets = view 2 little (a .objects) (drop 20 s) in
     let r = w .objects in
     let l : o < length offsets = subst (λ (n : ℕ). o < n) (sym (view-length 2 little (a .objects) (drop 20 s))) h in
-    let x = each-read (object (tablesAt s)) s offsets 0 (r .0) (w .held .objects) (r .1) .1 o 0 d l in
-    (x .0, subst (λ (p : ℕ). run (object (tablesAt s) p) s 0 ≡ accepted (x .0) (getD (w .held .objects) o d)) (view-there 2 little (a .objects) o 20 s 0 h) (x .1))
+    let x = each-read (at s) s offsets 0 (r .0) (w .held .objects) (r .1) .1 o 0 d l in
+    (x .0, subst (λ (p : ℕ). run (at s p) s 0 ≡ accepted (x .0) (getD (w .held .objects) o d)) (view-there 2 little (a .objects) o 20 s 0 h) (x .1))
 
 -- and so are the curves that stand there
 pub same-object : (s : List ℕ) (a : Known) (w : WholeAnimation s a) (o : ℕ) (d : Object) → o < a .objects → (c : TRSCurves) → ObjectStands s o c → objectCurves (tablesAt s) s c ≡ getD (w .held .objects) o d
 same-object s a w o d h c x = let y = object-whole s a w o d h in let e = sym (x .reads) ∙ y .1 in cc
 
 -- what reading an object found, in a whole entry
-module _ (s : List ℕ) (a : Known) (w : WholeAnimation s a) (o : ℕ) (h : o < a .objects) (p : ℕ) (e : p ≡ wordAt 2 s (20 + 2 * o)) (r : ObjectRead) (q : ObjectReads (object (a .tables) p) (a .tables) s 0 r) where
-  here : ObjectReads (object (tablesAt s) (wordAt 2 s (20 + 2 * o))) (tablesAt s) s 0 r
-  here = subst (λ (x : ℕ). ObjectReads (object (tablesAt s) x) (tablesAt s) s 0 r) e (subst (λ (t : Tables). ObjectReads (object t p) t s 0 r) (w .tables) q)
+module _ (s : List ℕ) (a : Known) (w : WholeAnimation s a) (o : ℕ) (h : o < a .objects) (p : ℕ) (e : p ≡ wordAt 2 s (20 + 2 * o)) (r : ObjectRead) (q : ObjectReads (object (a .tables .pivot) (a .tables .basis) p) (a .tables) s 0 r) where
+  here : ObjectReads (at s (wordAt 2 s (20 + 2 * o))) (tablesAt s) s 0 r
+  here = subst (λ (x : ℕ). ObjectReads (at s x) (tablesAt s) s 0 r) e (subst (λ (t : Tables). ObjectReads (object (t .pivot) (t .basis) p) t s 0 r) (w .tables) q)
 
   pub object-read : (c : TRSCurves) (m : ℕ) → r ≡ ObjectRead.Whole c m → ObjectStands s o c
-  object-read c m k = let x = subst (ObjectReads (object (tablesAt s) (wordAt 2 s (20 + 2 * o))) (tablesAt s) s 0) k here in record { reach = m; reads = x .reads; inside = x .inside }
+  object-read c m k = let x = known k here in record { reach = m; reads = x .reads; inside = x .holds }
 
   pub never-refused : (n : ℕ) → r ≡ ObjectRead.Refused n → ⊥
   never-refused n k =
-      let x = subst (ObjectReads (object (tablesAt s) (wordAt 2 s (20 + 2 * o))) (tablesAt s) s 0) k here in
-      let y = object-whole s a w o (record { translation = noAxes; rotation = none; scale = noAxes }) h in
+      let x = known k here in
+      let e = x .reads in
+      let y = object-whole s a w o stillObject h in
       let z : _≡_ {A = ℕ} 0 1 = cc in
       omega arith
-
--- a curve's record is the specification's
-pub recorded-scalar : (s : List ℕ) (c : ScalarCurve) (entry : ℕ) → scalarRecord c entry ≡ recordedOf (recorded entry (scalarCurve s c))
-unfolding recorded
-recorded-scalar s ScalarCurve.None entry = refl
-recorded-scalar s (ScalarCurve.Constant v) entry = refl
-recorded-scalar s (ScalarCurve.Samples l number) entry = ap (λ (n : ℕ). ScalarRecord.List (record { start = l .start; end = l .end; place = entry + l .place; length = n; size = l .size })) (sym (view-length (l .size) (numberOf number) (l .length) (drop (l .place) s)))
-
--- a curve inside a slice has room for its place
-pub room-in : (s : List ℕ) (c : ScalarCurve) (entry : ℕ) → Inside s c → entry + length s < 18446744073709551616 → RoomFor c entry
-room-in s ScalarCurve.None entry h l = tt
-room-in s (ScalarCurve.Constant v) entry h l = tt
-room-in s (ScalarCurve.Samples x n) entry h l = let e = h .ends in omega arith
 
 -- ---- rotations
 
@@ -79,32 +66,16 @@ pub basis-there : (s : List ℕ) (p : ℕ) → basisOf (take 10 (drop p s)) ≡ 
 unfolding basisOf
 basis-there s p = rw (word-part 2 10 p 0 s (omega arith), word-part 2 10 p 2 s (omega arith), word-part 2 10 p 4 s (omega arith), word-part 2 10 p 6 s (omega arith), word-part 2 10 p 8 s (omega arith), add-zero p) refl
 
--- the record that a reference leads to, by its bit 15
-module _ (t : Tables) (s : List ℕ) (x i : ℕ) (e : i ≡ bits x 0 15) (b : Bool) (k : b ≡ bit x 15) where
-  pub pivot-room : b ≡ true → referenceEnd t x ≤ length s → t .pivot + 6 * i + 6 ≤ length s
-  pivot-room h r = rw e (subst (λ (n : ℕ). n ≤ length s) (rw (sym k ∙ h) refl) r)
-
-  pub basis-room : b ≡ false → referenceEnd t x ≤ length s → t .basis + 10 * i + 10 ≤ length s
-  basis-room h r = rw e (subst (λ (n : ℕ). n ≤ length s) (rw (sym k ∙ h) refl) r)
-
-  pub pivot-matrix : b ≡ true → pivotOf (take 6 (drop (t .pivot + 6 * i) s)) ≡ matrixOf t s x
-  unfolding matrixOf
-  pivot-matrix h = rw (e, sym k ∙ h) refl
-
-  pub basis-matrix : b ≡ false → basisOf (take 10 (drop (t .basis + 10 * i) s)) ≡ matrixOf t s x
-  unfolding matrixOf
-  basis-matrix h = rw (e, sym k ∙ h) refl
-
 -- the matrices of a list of references
 module _ (t : Tables) (s : List ℕ) (l : SampleList) where
   abbrev matrices : List Mat3
-  matrices = map (matrixOf t s) (references s l)
+  matrices = map (matrixFor t s) (references s l)
 
   many : length (references s l) ≡ l .length
   many = view-length 2 little (l .length) (drop (l .place) s)
 
   pub matrix-count : length matrices ≡ l .length
-  matrix-count = length-map (references s l) (matrixOf t s) ∙ many
+  matrix-count = length-map (references s l) (matrixFor t s) ∙ many
 
   -- reference k, as code reads it
   module _ (k : ℕ) (h : k < l .length) (x : ℕ) (e : x ≡ wordAt 2 s (l .place + 2 * k)) where
@@ -114,18 +85,5 @@ module _ (t : Tables) (s : List ℕ) (l : SampleList) where
     pub reference-inside : InsideReferences t s l → referenceEnd t x ≤ length s
     reference-inside i = rw read (i .records k h)
 
-    pub matrix-there : (r : Mat3) → r ≡ matrixOf t s x → (default : Mat3) → r ≡ getD matrices k default
-    matrix-there r q default = q ∙ ap (matrixOf t s) read ∙ sym (map-at (matrixOf t s) (references s l) k 0 default (rw many h))
-
--- the records of a rotation curve are the specification's
-pub none-recorded : (t : Tables) (s : List ℕ) (entry : ℕ) (c : RotationCurve) → c ≡ RotationCurve.None → RotationRecord.None ≡ rotationOf (recorded entry (rotationCurve t s c))
-unfolding recorded
-none-recorded t s entry c h = rw h refl
-
-pub constant-recorded : (t : Tables) (s : List ℕ) (entry : ℕ) (c : RotationCurve) (x : ℕ) → c ≡ RotationCurve.Constant x → RotationRecord.Constant (matrixOf t s x) ≡ rotationOf (recorded entry (rotationCurve t s c))
-unfolding recorded
-constant-recorded t s entry c x h = rw h refl
-
-pub list-recorded : (t : Tables) (s : List ℕ) (entry : ℕ) (c : RotationCurve) (l : SampleList) → c ≡ RotationCurve.Samples l → RotationRecord.List (listRecord l entry) ≡ rotationOf (recorded entry (rotationCurve t s c))
-unfolding recorded
-list-recorded t s entry c l h = rw (h, matrix-count t s l) refl
+    pub matrix-there : (r : Mat3) → r ≡ matrixFor t s x → (default : Mat3) → r ≡ getD matrices k default
+    matrix-there r q default = q ∙ ap (matrixFor t s) read ∙ sym (map-at (matrixFor t s) (references s l) k 0 default (rw many h))

@@ -1,1 +1,1 @@
-pub mod Trs
+pub mod TrsCode

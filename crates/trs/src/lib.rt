@@ -2,15 +2,19 @@
 use animation::Animation;
 use animation::AxisCurves;
 use animation::ObjectRead;
+use animation::Referred;
 use animation::RotationCurve;
 use animation::TRSCurves;
 use animation::Tables;
-use animation::no_axes;
 use animation::read_object;
+use animation::refer;
+use animation::still_curves;
 use curve::SampleList;
-use curve::ScalarCurve;
+use curve::ScalarRecord;
 use curve::lerp_mat;
 use curve::locate;
+use curve::record_list;
+use curve::record_scalar;
 use curve::sample_scalar;
 use matrix::Col3;
 use matrix::Mat3;
@@ -19,7 +23,6 @@ use matrix::identity;
 use matrix::trs;
 use rotation::basis_mat;
 use rotation::pivot_mat;
-use util::bits::bit16;
 use util::bits::bits16;
 use util::fixed::Fix1_3_12;
 use util::view::word16;
@@ -31,23 +34,8 @@ ghost use Rattle.curve.specs.Curve.{recorded, mixMat, sampleAt};
 ghost use Rattle.matrix.specs.declared.Mat3 as mat3;
 ghost use Rattle.matrix.specs.Matrix.{identity3};
 ghost use Rattle.animation.specs.Animation.{pivotOf, basisOf, axesAt, matrixAt};
-ghost use Rattle.animation.specs.AnimationCode.{WholeAnimation, matrixOf, referenceEnd, references, rotationCurve, axisCurves, objectCurves, InsideAxes, InsideReferences, InsideRotation, InsideObject};
-ghost use Rattle.trs.specs.Trs.{ObjectStands, scalarRecord, RoomFor, RoomForAxes, axisRecord, rotationOf};
-
-// A list's record; the place counts from the section's start.
-pub struct ListRecord {
-    pub start: u16,
-    pub end: u16,
-    pub place: usize,
-    pub length: usize,
-    pub size: usize,
-}
-
-pub enum ScalarRecord {
-    None,
-    Constant(f64),
-    List(ListRecord),
-}
+ghost use Rattle.animation.specs.AnimationCode.{WholeAnimation, matrixFor, referenceEnd, references, rotationCurve, axisCurves, objectCurves, InsideAxes, InsideReferences, InsideRotation, InsideObject};
+ghost use Rattle.trs.specs.TrsCode.{ObjectStands, curveMeans, rotationRecordMeans, recordedAxis};
 
 // The curves of object o of a whole entry.
 pub fn object_at(s: &[u8], a: Animation, o: usize) -> TRSCurves
@@ -56,36 +44,7 @@ pub fn object_at(s: &[u8], a: Animation, o: usize) -> TRSCurves
 {
     match read_object(s, a.tables, word16(s, 20 + 2 * o) as usize, 0) {
         ObjectRead::Whole(c, _) => c,
-        ObjectRead::Refused(n) => TRSCurves {
-            trans: no_axes(),
-            rotation: RotationCurve::None,
-            scale: no_axes(),
-        },
-    }
-}
-
-fn list_record(l: SampleList, entry: usize) -> ListRecord
-    requires { ⌜ entry + l .place < 18446744073709551616 ⌝ }
-    ensures { λ r. ⌜ r ≡ record { start = l .start; end = l .end; place = entry + l .place; length = l .length; size = l .size } ⌝ }
-{
-    ListRecord {
-        start: l.start,
-        end: l.end,
-        place: entry + l.place,
-        length: l.length,
-        size: l.size,
-    }
-}
-
-// A scalar curve's record, in an entry that stands at `entry`.
-pub fn record_scalar(c: ScalarCurve, entry: usize) -> ScalarRecord
-    requires { ⌜ RoomFor c entry ⌝ }
-    ensures { λ r. ⌜ r ≡ scalarRecord c entry ⌝ }
-{
-    match c {
-        ScalarCurve::None => ScalarRecord::None,
-        ScalarCurve::Constant(v) => ScalarRecord::Constant(v),
-        ScalarCurve::Samples(l, _) => ScalarRecord::List(list_record(l, entry)),
+        ObjectRead::Refused(_) => still_curves(),
     }
 }
 
@@ -95,21 +54,21 @@ pub enum CurveRecord {
 }
 
 // The record of axis 0, 1 or 2, in an entry that stands at `entry`.
-pub fn record_axis(a: AxisCurves, axis: usize, entry: usize) -> CurveRecord
-    requires { ⌜ RoomForAxes a entry ⌝ }
-    ensures { λ r. ⌜ r ≡ axisRecord a axis entry ⌝ }
+pub fn record_axis(s: &[u8], a: AxisCurves, axis: usize, entry: usize) -> CurveRecord
+    requires { ⌜ InsideAxes (now s) a × (entry + length (now s) < 18446744073709551616) ⌝ }
+    ensures { λ r. ⌜ curveMeans r ≡ recordedAxis (axisCurves (now (s .entry)) a) axis entry ⌝ }
 {
     if axis == 0 {
         let c = a.x;
-        return CurveRecord::Curve(record_scalar(c, entry));
+        return CurveRecord::Curve(record_scalar(s, c, entry));
     }
     if axis == 1 {
         let c = a.y;
-        return CurveRecord::Curve(record_scalar(c, entry));
+        return CurveRecord::Curve(record_scalar(s, c, entry));
     }
     if axis == 2 {
         let c = a.z;
-        return CurveRecord::Curve(record_scalar(c, entry));
+        return CurveRecord::Curve(record_scalar(s, c, entry));
     }
     CurveRecord::Refused(9)
 }
@@ -117,7 +76,7 @@ pub fn record_axis(a: AxisCurves, axis: usize, entry: usize) -> CurveRecord
 pub enum RotationRecord {
     None,
     Constant(Mat3),
-    List(ListRecord),
+    List(SampleList),
 }
 
 pub enum RotationAnswer {
@@ -157,40 +116,38 @@ fn basis_at(s: &[u8], p: usize) -> Mat3
 
 // The matrix that x refers to.
 fn matrix_of(s: &[u8], t: Tables, x: u16) -> Mat3
-    requires { ⌜ (referenceEnd t x ≤ length (now s)) × (t .pivot < 4294967296) × (t .basis < 4294967296) ⌝ }
-    ensures { λ r. ⌜ r ≡ matrixOf t (now (s .entry)) x ⌝ }
+    requires { ⌜ referenceEnd t x ≤ length (now s) ⌝ }
+    ensures { λ r. ⌜ r ≡ matrixFor t (now (s .entry)) x ⌝ }
 {
-    let i = bits16(x, 0, 15) as usize;
-    if bit16(x, 15) {
-        pivot_at(s, t.pivot + 6 * i)
-    } else {
-        basis_at(s, t.basis + 10 * i)
+    match refer(t, x) {
+        Referred::Pivot(place) => pivot_at(s, place),
+        Referred::Basis(place) => basis_at(s, place),
     }
 }
 
 // A rotation curve's record, in an entry that stands at `entry`.
 pub fn record_rotation(s: &[u8], t: Tables, c: RotationCurve, entry: usize) -> RotationRecord
-    requires { ⌜ InsideRotation t (now s) c × (t .pivot < 4294967296) × (t .basis < 4294967296) × (entry + length (now s) < 18446744073709551616) ⌝ }
-    ensures { λ r. ⌜ r ≡ rotationOf (recorded entry (rotationCurve t (now (s .entry)) c)) ⌝ }
+    requires { ⌜ InsideRotation t (now s) c × (entry + length (now s) < 18446744073709551616) ⌝ }
+    ensures { λ r. ⌜ rotationRecordMeans r ≡ recorded entry (rotationCurve t (now (s .entry)) c) ⌝ }
 {
     match c {
         RotationCurve::None => RotationRecord::None,
         RotationCurve::Constant(x) => RotationRecord::Constant(matrix_of(s, t, x)),
-        RotationCurve::Samples(l) => RotationRecord::List(list_record(l, entry)),
+        RotationCurve::Samples(l) => RotationRecord::List(record_list(l, entry)),
     }
 }
 
 // Value k of a rotation's list: the matrix that its reference leads to.
 fn rotation_value(s: &[u8], t: Tables, l: SampleList, k: usize) -> Mat3
-    requires { ⌜ InsideReferences t (now s) l × (t .pivot < 4294967296) × (t .basis < 4294967296) × (k < l .length) ⌝ }
-    ensures { λ r. ⌜ ((default : mat3.Mat3) → r ≡ getD (map (matrixOf t (now (s .entry))) (references (now (s .entry)) l)) k default) ⌝ }
+    requires { ⌜ InsideReferences t (now s) l × (k < l .length) ⌝ }
+    ensures { λ r. ⌜ ((default : mat3.Mat3) → r ≡ getD (map (matrixFor t (now (s .entry))) (references (now (s .entry)) l)) k default) ⌝ }
 {
     matrix_of(s, t, word16(s, l.place + 2 * k))
 }
 
 // A rotation's list that is not empty, at a frame.
 fn sample_rotations(s: &[u8], t: Tables, l: SampleList, frame: u16) -> Mat3
-    requires { ⌜ InsideReferences t (now s) l × (t .pivot < 4294967296) × (t .basis < 4294967296) × (1 ≤ l .length) ⌝ }
+    requires { ⌜ InsideReferences t (now s) l × (1 ≤ l .length) ⌝ }
     ensures { λ r. ⌜ r ≡ sampleAt mixMat identity3 (rotationCurve t (now (s .entry)) (RotationCurve.Samples l)) frame ⌝ }
 {
     if frame <= l.start {
@@ -207,7 +164,7 @@ fn sample_rotations(s: &[u8], t: Tables, l: SampleList, frame: u16) -> Mat3
 
 // A rotation at a frame: the identity where it has no value.
 fn sample_rotation(s: &[u8], t: Tables, c: RotationCurve, frame: u16) -> Mat3
-    requires { ⌜ InsideRotation t (now s) c × (t .pivot < 4294967296) × (t .basis < 4294967296) ⌝ }
+    requires { ⌜ InsideRotation t (now s) c ⌝ }
     ensures { λ r. ⌜ r ≡ sampleAt mixMat identity3 (rotationCurve t (now (s .entry)) c) frame ⌝ }
 {
     match c {
@@ -239,7 +196,7 @@ pub fn sample_axes(s: &[u8], a: AxisCurves, default: f64, frame: u16) -> Col3
 
 // An object's matrix at a frame.
 pub fn sample_at(s: &[u8], t: Tables, c: TRSCurves, frame: u16) -> Mat4
-    requires { ⌜ InsideObject t (now s) c × (t .pivot < 4294967296) × (t .basis < 4294967296) ⌝ }
+    requires { ⌜ InsideObject t (now s) c ⌝ }
     ensures { λ r. ⌜ r ≡ matrixAt (objectCurves t (now (s .entry)) c) frame ⌝ }
 {
     let translation = c.trans;

@@ -1,14 +1,14 @@
 -- What holds of every value that a reader gives on bytes. Assumes nothing.
-use Prim.Native.Nat.{ℕ, zero, suc, _+_, _^_, max, _<_}
+use Prim.Native.Nat.{ℕ, zero, suc, _+_, _*_, _/_, _%_, _^_, max, _≤_, _<_}
 use mathlib.Core.Bool.{Bool, true, false, cond}
 use mathlib.Core.List.{List, [], _∷_}
 use mathlib.Core.Path.{_≡_, refl, ap, subst}
 use native.Mathlib.Nat.{pow-suc}
 use native.Mathlib.Omega.{arith}
 use lib.Dec.{lit<}
-use lib.ListN.{length, take, drop, getD}
+use lib.ListN.{length, take, drop, getD, length-drop}
 use lib.Seq.{getD-drop}
-use Rattle.util.specs.View.{little, wordAt, view}
+use Rattle.util.specs.View.{little, littleBytes, wordAt, view}
 use Rattle.util.specs.Reader.{Reader, done, refuse, part, accepted, run, bind, each}
 use Rattle.util.specs.Place.{within}
 use Rattle.util.proofs.Cut.{had-part}
@@ -38,6 +38,21 @@ word-below (suc n) (b ∷ s) h =
 
 pub word-lt : (n : ℕ) (s : List ℕ) (p : ℕ) → Bytes s → wordAt n s p < 256 ^ n
 word-lt n s p h = word-below n (drop p s) (bytes-drop p s h)
+
+-- the bytes of a word are the bytes that it was read from
+little-bytes : (n : ℕ) (s : List ℕ) → Bytes s → n ≤ length s → littleBytes n (little (take n s)) ≡ take n s
+unfolding little littleBytes
+little-bytes zero s h l = refl
+little-bytes (suc n) [] h l = absurd (omega arith)
+little-bytes (suc n) (b ∷ s) h l =
+    let k : b < 256 = h 0 in
+    let w = little (take n s) in
+    let low : (b + 256 * w) % 256 ≡ b = omega arith in
+    let high : (b + 256 * w) / 256 ≡ w = omega arith in
+    rw (low, high, little-bytes n s (λ j. h (suc j)) (omega arith)) refl
+
+pub word-bytes : (n : ℕ) (s : List ℕ) (p : ℕ) → Bytes s → p + n ≤ length s → littleBytes n (wordAt n s p) ≡ take n (drop p s)
+word-bytes n s p h l = little-bytes n (drop p s) (bytes-drop p s h) (simp length-drop (omega arith))
 
 module _ {A : Type 0} where
   -- every element of a list satisfies P

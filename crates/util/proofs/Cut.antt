@@ -86,14 +86,6 @@ module _ {A : Type 0} where
       let h = grows (f (take n (drop p s))) s (max m (p + n)) m' a (w .1) in
       omega arith
 
-  -- a part that was read is in the reach
-  pub part-reach : (p n : ℕ) (f : List ℕ → Reader A) (s : List ℕ) (m m' : ℕ) (a : A) → run (part p n f) s m ≡ accepted m' a → p + n ≤ m'
-  unfolding run
-  part-reach p n f s m m' a e =
-      let w = had-part (p + n) (length s) (run (f (take n (drop p s))) s (max m (p + n))) m' a e in
-      let h = grows (f (take n (drop p s))) s (max m (p + n)) m' a (w .1) in
-      omega arith
-
   -- a cut from the reach on changes nothing, whatever follows
   pub kept : (r : Reader A) (s : List ℕ) (m m' : ℕ) (a : A) → run r s m ≡ accepted m' a → (k : ℕ) (t : List ℕ) → m' ≤ k → run r (front k s t) m ≡ accepted m' a
   unfolding run
@@ -144,8 +136,8 @@ module _ {A : Type 0} where
 -- ---- reaches
 
 -- a reach that a later part passes
-pub over : (m a b : ℕ) → a ≤ b → max m b ≡ b → max (max m a) b ≡ b
-over m a b h q = omega arith
+pub over : (m a b c : ℕ) → a ≤ b → max m b ≡ c → max (max m a) b ≡ c
+over m a b c h q = omega arith
 
 pub max-right : (m a : ℕ) → m ≤ a → max m a ≡ a
 max-right m a h = omega arith

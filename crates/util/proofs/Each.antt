@@ -1,17 +1,20 @@
 -- Following a list of readers one after the other, as a loop does. Assumes nothing.
-use Prim.Native.Nat.{ℕ, zero, suc, _+_, _≤_, _<_}
+use Prim.Native.Nat.{ℕ, zero, suc, _+_, _*_, _≤_, _<_}
 use mathlib.Core.List.{List, [], _∷_}
 use mathlib.Core.Path.{_≡_, refl, sym, ap, subst, _∙_}
 use native.Mathlib.Numerals.{add-one}
 use native.Mathlib.Omega.{arith}
-use lib.ListN.{length, drop, getD, drop-of-length-le}
+use lib.ListN.{length, take, drop, getD, drop-of-length-le}
 use lib.Seq.{drop-cons}
 use Rattle.util.specs.declared.cur.Reach.{Reach}
 use Rattle.util.specs.declared.cur.Reach.the-variants.{Whole, Refused}
-use Rattle.util.specs.Reader.{Reader, done, Outcome, accepted, refused, run, bind, each, reachOf}
+use Rattle.util.specs.Reader.{Reader, done, Outcome, accepted, refused, run, bind, each}
+use Rattle.util.specs.ReaderCode.{reachOf}
+use Rattle.util.specs.View.{view}
 use Rattle.util.specs.Place.{raised}
 use Rattle.util.proofs.Place.{run-raised}
 use Rattle.util.proofs.Calls.{after, run-bind, accepted-first}
+use Rattle.util.proofs.ViewLaws.{view-length, view-there}
 
 -- the reach of what follows an outcome
 abbrev pub onward : Reach → (ℕ → Reach) → Reach
@@ -99,3 +102,38 @@ module _ {A B : Type 0} (f : A → Reader B) (s : List ℕ) where
           → (k : ℕ) × (run (f (getD (x ∷ xs) i d)) s 0 ≡ accepted k (getD (y ∷ zs) i d'))
       pick-item zero d d' x xs y zs h g l = h
       pick-item (suc i) d d' x xs y zs h g l = g i d d' (omega arith)
+
+-- ---- the readers of items that stand in the section at a position, followed by index
+
+module _ {A B : Type 0} (f : A → Reader B) (s : List ℕ) (size : ℕ) (read : List ℕ → A) (at count : ℕ) (d : A) where
+  abbrev items : List A
+  items = view size read count (drop at s)
+
+  item-count : length items ≡ count
+  item-count = view-length size read count (drop at s)
+
+  -- what is left from item i on, after parts that reach as far as m
+  abbrev pub items-left : ℕ → ℕ → Reach
+  items-left i m = rest f s items d i m
+
+  pub items-end : (i m : ℕ) → count ≤ i → Whole m ≡ items-left i m
+  items-end i m h = sym (all f s items d i m (rw item-count h))
+
+  -- x is item i, and r what code answers of its reader
+  module _ (i m : ℕ) (h : i < count) (x : A) (e : x ≡ read (take size (drop (at + size * i) s))) (r : Reach) (q : r ≡ reachOf (run (f x) s m)) where
+    item-reach : reachOf (run (f (getD items i d)) s m) ≡ r
+    item-reach = rw (view-there size read count i at s d h, ← e) (sym q)
+
+    -- it is whole: go on; or it is refused, and so are the items
+    pub item-whole : (j : ℕ) → r ≡ Whole j → items-left (i + 1) j ≡ items-left i m
+    item-whole j w = sym (next f s items d i m j (rw item-count h) (item-reach ∙ w))
+
+    pub item-refused : (n : ℕ) → r ≡ Refused n → Refused n ≡ items-left i m
+    item-refused n w = sym (ended f s items d i m n (rw item-count h) (item-reach ∙ w))
+
+  -- items that are accepted have each been read
+  pub items-read : (m : ℕ) (ys : List B) → run (each f items) s 0 ≡ accepted m ys
+      → (length ys ≡ count) × ((i : ℕ) (d' : B) → i < count → (k : ℕ) × (run (f (read (take size (drop (at + size * i) s)))) s 0 ≡ accepted k (getD ys i d')))
+  items-read m ys e =
+      let w = each-read f s items 0 m ys e in
+      (w .0 ∙ item-count, λ i d' h. let k = w .1 i d d' (rw item-count h) in (k .0, rw (view-there size read count i at s d h) at (k .1)))

@@ -2,20 +2,20 @@
 use Prim.Native.Nat.{ℕ, suc, _+_, _-_, _*_, _%_, _^_, _≤_, _<_}
 use mathlib.Core.Bool.{Bool, true, false, cond}
 use mathlib.Core.Path.{_≡_, refl, sym, ap, subst, _∙_}
-use native.Mathlib.Nat.{mod-lt, mul-assoc, mul-pos, lt-of-lt-of-le, le-of-lt}
+use native.Mathlib.Nat.{mod-lt, mod-eq-of-lt, mul-assoc, mul-le-mul-right, one-mul, div-one, sub-zero, lt-of-lt-of-le}
 use native.Mathlib.Omega.{arith}
-use borrow.Author.Tests.{ltb-true, ltb-false, le-ltb, lt-leb}
-use lib.Bits.{bitAnd, and-mask, mask-lt}
-use lib.Dec.{T, ltb, leb→le, ltb→lt, le→leb, lt→ltb}
+use borrow.Author.Tests.{ltb-true, ltb-false, lt-ltb, le-ltb, lt-leb}
+use lib.Dec.{ltb, lit<}
 use lib.IntN.{ℤ, pos, negsuc}
-use lib.Pow.{pow-pos, pow-add, pow-mono, shl-lt}
-use lib.Ieee.{Float, fin, binary64, up, down, unlike, round, neg, mul, minus, ofInt, inFloat}
+use lib.Pow.{pow-pos, pow-add, pow-mono, shl-lt, shl-exact}
+use lib.Ieee.{Float, binary64, round, neg, div, minus, ofInt, le}
+use lib.Ieee.Bits.{is-true}
 use lib.Ieee.Back.{round-whole}
 use lib.Ieee.Exact.{HasValue, round-exact}
-use lib.Ieee.Fits.{down-pos}
-use lib.Ieee.Scale.{round-same}
-use Rattle.util.proofs.RoundLaws.{neg-round}
-use Rattle.util.specs.Fixed.{Fix, width, half, ratio, twos, integer, fixed, Exactly, InRange}
+use lib.Ieee.Order.{round-mono}
+use Rattle.util.proofs.RoundLaws.{neg-round, sign-round, apart, round-falls, quotient}
+use Rattle.util.specs.Bits.{bits}
+use Rattle.util.specs.Fixed.{Fix, width, half, ratio, twos, integer, fixed, least, greatest, Exactly, InRange, Promises}
 
 back : (k : ℕ) → k ≤ 1074 → 1074 ≡ 1074 - k + k
 back k l = omega arith
@@ -53,10 +53,46 @@ ratio-exact f w (negsuc n) h = exact-at true (suc n) (f .fraction) (below n h) (
         let a : half f ≤ 2 ^ 52 = pow-mono {i = f .whole + f .fraction} {j = 52} (omega arith) in
         omega arith
 
--- a number of at most 53 bits is the integer of its low bits over the power of two, exactly
 pub exact : (f : Fix) → width f ≤ 53 → (x : ℕ) → Exactly (fixed f x) (integer f x) (2 ^ f .fraction)
 unfolding fixed
 exact f w x = ratio-exact f w (integer f x) (in-range f x)
+
+-- ---- the least and the greatest value
+
+own-integer : (f : Fix) (v : ℕ) → v < half f + half f → integer f v ≡ twos (half f) v
+own-integer f v l = ap (twos (half f)) (mod-eq-of-lt (subst (λ (n : ℕ). v < n) (sym (whole-half f)) l))
+
+lowest : (f : Fix) → integer f (half f) ≡ negsuc (half f - 1)
+lowest f = let p : 0 < half f = pow-pos (f .whole + f .fraction) in own-integer f (half f) (omega arith) ∙ at-half (half f) p
+  where
+    at-half : (h : ℕ) → 0 < h → twos h h ≡ negsuc (h - 1)
+    at-half h p = simp (le-ltb h h (omega arith), lt-leb (h + h) h (omega arith)) (ap negsuc (omega arith))
+
+highest : (f : Fix) → integer f (half f - 1) ≡ pos (half f - 1)
+highest f = let p : 0 < half f = pow-pos (f .whole + f .fraction) in own-integer f (half f - 1) (omega arith) ∙ simp (lt-ltb (half f - 1) (half f) (omega arith))
+
+bounded : (f : Fix) (z : ℤ) → InRange f z → (le (least f) (ratio z (2 ^ f .fraction)) ≡ true) × (le (ratio z (2 ^ f .fraction)) (greatest f) ≡ true)
+unfolding least greatest ratio
+bounded f (pos n) h =
+    let d : 0 < 2 ^ f .fraction = pow-pos (f .fraction) in (
+      apart _ _ (sign-round binary64 true _ _) (sign-round binary64 false _ _),
+      is-true _ (round-mono binary64 n _ (half f - 1) _ d d (mul-le-mul-right (2 ^ f .fraction) (omega arith))),
+    )
+bounded f (negsuc n) h =
+    let d : 0 < 2 ^ f .fraction = pow-pos (f .fraction) in (
+      round-falls binary64 (suc n) _ (suc (half f - 1)) _ d d (mul-le-mul-right (2 ^ f .fraction) (omega arith)),
+      apart _ _ (sign-round binary64 true _ _) (sign-round binary64 false _ _),
+    )
+
+pub promises : (f : Fix) → Promises f
+unfolding fixed least greatest
+promises f =
+    record {
+      exact = exact f;
+      lowest = ap (λ (z : ℤ). ratio z (2 ^ f .fraction)) (lowest f);
+      highest = ap (λ (z : ℤ). ratio z (2 ^ f .fraction)) (highest f);
+      between = λ x. bounded f (integer f x) (in-range f x);
+    }
 
 -- ---- what the code of each format does
 
@@ -70,36 +106,35 @@ upper sign v h l =
     distance : (sign v : ℕ) → sign ≤ v → v < sign + sign → sign - (v - sign) ≡ suc (sign + sign - suc v)
     distance sign v h l = omega arith
 
--- a whole number times 2 ^ -(k + 1) is one rounding of the quotient
-times : (x : Float) (s : Bool) (n k : ℕ) → HasValue x s n 1 → mul binary64 x (fin false 1 (negsuc k)) ≡ round binary64 s n (2 ^ suc k)
-unfolding mul
-times (fin t m e) s n k v =
-    ap (λ (b : Bool). round binary64 b (m * up e * 1) (down e * 2 ^ suc k)) (unlike-false t ∙ v .0)
-    ∙ round-same binary64 s (m * up e * 1) (down e * 2 ^ suc k) n (2 ^ suc k) (mul-pos (down-pos e) (pow-pos (suc k))) (pow-pos (suc k))
-    (ap (λ (z : ℕ). z * 2 ^ suc k) (v .1) ∙ mul-assoc n (down e) (2 ^ suc k))
-  where
-    unlike-false : (b : Bool) → unlike b false ≡ b
-    unlike-false true = refl
-    unlike-false false = refl
+-- 1 shifted left in a word of 32 bits
+power : (k : ℕ) → k < 32 → 1 * 2 ^ k % 2 ^ 32 ≡ 2 ^ k
+power k h = shl-exact {a = 1} 1 k 32 (lit< tt) (omega arith) ∙ one-mul (2 ^ k)
 
-scaled : (z : ℤ) (k : ℕ) → T (inFloat binary64 z) → mul binary64 (ofInt binary64 z) (fin false 1 (negsuc k)) ≡ ratio z (2 ^ suc k)
-unfolding ofInt inFloat ratio
-scaled (pos n) k t = times (round binary64 false n 1) false n k (round-whole binary64 false n (leb→le n (2 ^ 53) t))
-scaled (negsuc n) k t = times (round binary64 true (suc n) 1) true (suc n) k (round-whole binary64 true (suc n) (ltb→lt n (2 ^ 53) t))
+module _ (f : Fix) (w : width f ≤ 32) where
+  small : half f ≤ 2 ^ 53
+  small = pow-mono {i = f .whole + f .fraction} {j = 53} (omega arith)
 
-in-float : (f : Fix) → width f ≤ 32 → (z : ℤ) → InRange f z → T (inFloat binary64 z)
-unfolding inFloat
-in-float f w (pos n) h = le→leb n (2 ^ 53) (le-of-lt (lt-of-lt-of-le h (pow-mono {i = f .whole + f .fraction} {j = 53} (omega arith))))
-in-float f w (negsuc n) h = lt→ltb n (2 ^ 53) (lt-of-lt-of-le h (pow-mono {i = f .whole + f .fraction} {j = 53} (omega arith)))
+  over : HasValue (round binary64 false (2 ^ f .fraction) 1) false (2 ^ f .fraction) 1
+  over = round-whole binary64 false (2 ^ f .fraction) (pow-mono {i = f .fraction} {j = 53} (omega arith))
 
--- the masked word as a signed number, times the unit, is the format's reading
-pub read-law : (f : Fix) (k x : ℕ) (r : Float) → width f ≤ 32 → f .fraction ≡ suc k → r ≡ ofInt binary64 (twos (half f) (bitAnd x (2 ^ width f - 1)))
-    → mul binary64 r (fin false 1 (negsuc k)) ≡ fixed f x
-unfolding fixed
-read-law f k x r w q e =
-    ap (λ (y : Float). mul binary64 y (fin false 1 (negsuc k))) (e ∙ ap (λ (v : ℕ). ofInt binary64 (twos (half f) v)) (and-mask x (width f)))
-    ∙ (scaled (integer f x) k (in-float f w (integer f x) (in-range f x)) ∙ ap (λ (n : ℕ). ratio (integer f x) (2 ^ n)) (sym q))
+  -- a float of the integer over one of the power of two: one rounding
+  divided : (z : ℤ) → InRange f z → div binary64 (ofInt binary64 z) (ofInt binary64 (pos (2 ^ f .fraction))) ≡ ratio z (2 ^ f .fraction)
+  unfolding ofInt ratio
+  divided (pos n) h = quotient _ _ false n _ (round-whole binary64 false n (omega (arith, small))) over (pow-pos (f .fraction))
+  divided (negsuc n) h = quotient _ _ true (suc n) _ (round-whole binary64 true (suc n) (omega (arith, small))) over (pow-pos (f .fraction))
 
--- a masked word is below twice the sign bit's weight
-pub masked : (f : Fix) (x : ℕ) → bitAnd x (2 ^ width f - 1) < half f + half f
-masked f x = subst (λ (n : ℕ). bitAnd x (2 ^ width f - 1) < n) (whole-half f) (mask-lt x (width f))
+  module _ (n : ℕ) (all : n ≡ width f) (x v : ℕ) (low : v ≡ bits x 0 n) where
+    low-bits : v ≡ x % 2 ^ width f
+    low-bits = low ∙ simp (div-one, sub-zero, all)
+
+    sign-bit : 1 * 2 ^ (n - 1) % 2 ^ 32 ≡ half f
+    sign-bit = power (n - 1) (omega arith) ∙ ap (λ (k : ℕ). 2 ^ k) (omega arith)
+
+    -- the low bits are below twice the sign bit's weight
+    pub signed-fits : v < 1 * 2 ^ (n - 1) % 2 ^ 32 + 1 * 2 ^ (n - 1) % 2 ^ 32
+    signed-fits = rw (sign-bit, ← whole-half f, low-bits) (mod-lt x (pow-pos (width f)))
+
+    -- as a signed number, over the power of two, they are the format's reading
+    pub number-law : (r : Float) → r ≡ ofInt binary64 (twos (1 * 2 ^ (n - 1) % 2 ^ 32) v) → div binary64 r (ofInt binary64 (pos (1 * 2 ^ f .fraction % 2 ^ 32))) ≡ fixed f x
+    unfolding fixed
+    number-law r e = rw (e, sign-bit, power (f .fraction) (omega arith), low-bits) (divided (integer f x) (in-range f x))

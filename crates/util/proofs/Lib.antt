@@ -9,3 +9,5 @@ pub mod WithinLaws
 pub mod ViewLaws
 pub mod All
 pub mod WritesLaws
+pub mod ReadsLaws
+pub mod BelowLaws

@@ -60,6 +60,22 @@ pub word-one : (s : List ℕ) (p : ℕ) → p < length s → getD s p 0 ≡ word
 unfolding little
 word-one s p h = omega (arith, word-step 0 s p h)
 
+-- ---- the bytes of a word
+
+pub length-little : (n x : ℕ) → length (littleBytes n x) ≡ n
+unfolding littleBytes
+length-little zero x = refl
+length-little (suc n) x = ap suc (length-little n (x / 256))
+
+-- a word of n bytes is its bytes' word
+pub little-little : (n x : ℕ) → x < 256 ^ n → little (littleBytes n x) ≡ x
+unfolding little littleBytes
+little-little zero x h = omega arith
+little-little (suc n) x h =
+    let q : x / 256 < 256 ^ n = let e = pow-suc 256 n in omega arith in
+    let ih = little-little n (x / 256) q in
+    omega arith
+
 -- ---- lists of items
 
 -- item i of a mapped list, whatever the defaults

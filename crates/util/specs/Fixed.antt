@@ -1,11 +1,11 @@
 -- The number formats: a sign bit, some whole bits and some fraction bits. Assumes nothing.
-use Prim.Native.Nat.{ℕ, suc, _+_, _-_, _%_, _^_, _<_}
+use Prim.Native.Nat.{ℕ, suc, _+_, _-_, _%_, _^_, _≤_, _<_}
 use mathlib.Core.Bool.{true, false, cond}
+use mathlib.Core.Path.{_≡_}
 use lib.Dec.{ltb}
 use lib.IntN.{ℤ, pos, negsuc}
-use lib.Ieee.{Float, binary64, round, minus}
+use lib.Ieee.{Float, binary64, round, minus, le}
 use lib.Ieee.Exact.{HasValue}
-use Rattle.util.specs.declared.fixed.Limits.{Limits}
 
 pub record Fix : Type 0 where
   pub whole : ℕ
@@ -55,9 +55,6 @@ least f = ratio (negsuc (half f - 1)) (2 ^ f .fraction)
 unfoldable pub greatest : Fix → Float
 greatest f = ratio (pos (half f - 1)) (2 ^ f .fraction)
 
-abbrev pub limitsOf : Fix → Limits
-limitsOf f = record { bits = width f; least = least f; greatest = greatest f }
-
 -- the float x is z / d, with nothing rounded
 abbrev pub Exactly : Float → ℤ → ℕ → Type 0
 Exactly x (pos n) d = HasValue x false n d
@@ -67,3 +64,12 @@ Exactly x (negsuc n) d = HasValue x true (suc n) d
 abbrev pub InRange : Fix → ℤ → Type 0
 InRange f (pos n) = n < half f
 InRange f (negsuc n) = n < half f
+
+-- What is promised of a format. Proved of every format in proofs/FixedLaws.antt.
+pub record Promises (f : Fix) : Type 0 where
+  -- a number of at most 53 bits is the integer of its low bits over the power of two, with nothing rounded
+  pub exact : width f ≤ 53 → (x : ℕ) → Exactly (fixed f x) (integer f x) (2 ^ f .fraction)
+  -- the sign bit alone reads as the least value, all bits but it as the greatest, and every reading lies between the two
+  pub lowest : fixed f (half f) ≡ least f
+  pub highest : fixed f (half f - 1) ≡ greatest f
+  pub between : (x : ℕ) → (le (least f) (fixed f x) ≡ true) × (le (fixed f x) (greatest f) ≡ true)

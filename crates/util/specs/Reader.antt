@@ -7,8 +7,6 @@ use mathlib.Core.Bool.{Bool, true, false}
 use mathlib.Core.List.{List, [], _∷_}
 use lib.Dec.{leb}
 use lib.ListN.{length, take, drop}
-use Rattle.util.specs.declared.cur.Reach.{Reach}
-use Rattle.util.specs.declared.cur.Reach.the-variants.{Whole, Refused}
 use Rattle.util.specs.View.{little, view}
 
 -- `part p n rest`: the n bytes at p are read, and `rest` goes on with them. A reader sees nothing of the section but its parts.
@@ -38,16 +36,6 @@ module _ {A : Type 0} where
   run (part p n rest) s m =
       let o = run (rest (take n (drop p s))) s (max m (p + n)) in
       ends (p + n) (length s) o
-
-  -- the number that a call answers: 0 where it accepts
-  abbrev pub number : Outcome A → ℕ
-  number (accepted m a) = 0
-  number (refused n) = n
-
-  -- what code that only follows a reader's parts answers
-  abbrev pub reachOf : Outcome A → Reach
-  reachOf (accepted m a) = Whole m
-  reachOf (refused n) = Refused n
 
 -- ---- one reader after the other
 
@@ -106,3 +94,13 @@ module _ {A : Type 0} where
   abbrev pub tell : Verdict A → Reader A
   tell (answered a) = done a
   tell (denied n) = refuse n
+
+  -- what a call answers, without its reach
+  abbrev pub told : Outcome A → Verdict A
+  told (accepted m a) = answered a
+  told (refused n) = denied n
+
+  -- its number: 0 where it accepts
+  abbrev pub number : Verdict A → ℕ
+  number (answered a) = 0
+  number (denied n) = n

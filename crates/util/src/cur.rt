@@ -1,7 +1,14 @@
-// How far reading went: the reach, or the refusal's number.
+// Where reading stands, and how far it went.
 ghost use mathlib.Core.Path.{_≡_};
 ghost use Prim.Native.Nat.{max};
 
+// The position of the next field, and how far the parts reach that have been read.
+pub struct Cur {
+    pub pos: usize,
+    pub reach: usize,
+}
+
+// The reach, or the refusal's number.
 pub enum Reach {
     Whole(usize),
     Refused(u8),

@@ -1,4 +1,6 @@
 //! Each call against the Rust, on one section.
+use crate::fill::{self, as_floats};
+use crate::layout;
 use crate::oracle::{self, Entry, Value};
 use crate::rng::Rng;
 use apicula::nitro::animation::{Curve, TRSCurves};
@@ -104,10 +106,17 @@ fn entry(s: &[u8], i: usize, e: Entry, rng: &mut Rng, counts: &mut Counts) -> Ag
         Err(n) => {
             agree!(motion::check(s, i), Err(Refusal(n)), "the check of a refused entry");
             agree!(motion::number(s, i), n, "the number of a refused entry");
-            let mut out = [5; 130];
-            let call = motion::matrix_bytes(s, i, 0, 0, &mut out);
-            agree!(call, Err(Refusal(if s.starts_with(b"JNT0") { n } else { 1 })), "the matrix of a refused entry");
-            agree!(out, [5; 130], "the slice of a refused matrix");
+            let refusal = Refusal(if s.starts_with(b"JNT0") { n } else { 1 });
+            let before = rng.bytes(130);
+            let mut out = before.clone();
+            agree!(motion::matrix_bytes(s, i, 0, 0, &mut out), Err(refusal), "the matrix of a refused entry");
+            agree!(out, before, "the slice of a refused matrix");
+            for resample in [motion::resample_translation, motion::resample_scale] {
+                let before = fill::floats(rng, 8);
+                let mut out = before.clone();
+                agree!(resample(s, i, 0, as_floats(&mut out), 1), Err(refusal), "a refused entry resampled");
+                agree!(out, before, "the slice of a refused entry");
+            }
             counts.refused[n as usize] += 1;
             return Ok(());
         }
@@ -135,7 +144,8 @@ fn entry(s: &[u8], i: usize, e: Entry, rng: &mut Rng, counts: &mut Counts) -> Ag
                 let mut ends = Vec::new();
                 for (c, channel) in track.channels.iter().enumerate() {
                     let curve = motion::channel_curve(s, i, t, c);
-                    scalar(s, curve, &channel.curve, &|s, p, _| fix16(word16(s, p), 1, 10, 5))
+                    let list = Some(layout::channel(s, i, t, c));
+                    scalar(s, curve, &channel.curve, list, &|s, p, _| fix16(word16(s, p), 1, 10, 5))
                         .map_err(|m| format!("track {t}, channel {c}: {m}"))?;
                     ends.push(channel.num_frames);
                     counts.curves += 1;
@@ -150,20 +160,26 @@ fn entry(s: &[u8], i: usize, e: Entry, rng: &mut Rng, counts: &mut Counts) -> Ag
         Value::Pat(a) => {
             agree!((record.frames, record.count), (a.num_frames, a.material_tracks.len()), "frames and tracks");
             agree!(motion::choice(s, i, record.count, 0), Err(Refusal(9)), "the track after the last");
-            for (place, names) in [(motion::texture_names(s, i), &a.texture_names), (motion::palette_names(s, i), &a.palette_names)] {
-                let place = place.map_err(|n| format!("a list of names: {n}"))?;
-                agree!(place.length, names.len(), "how many names there are");
+            for (ours, place, names) in [
+                (motion::texture_names(s, i), layout::textures(s, i), &a.texture_names),
+                (motion::palette_names(s, i), layout::palettes(s, i), &a.palette_names),
+            ] {
+                agree!(ours, Ok(motion::Place { place, length: names.len() }), "where the names stand, and how many there are");
                 for (k, name) in names.iter().enumerate() {
-                    agree!(&s[place.place + 16 * k..][..16], &name.0[..], "name {k}");
+                    agree!(&s[place + 16 * k..][..16], &name.0[..], "name {k}");
                 }
             }
             for (t, track) in a.material_tracks.iter().enumerate() {
                 agree!(motion::pattern_name(s, i, t), Ok(track.name.0), "the name of track {t}");
-                let place = motion::keys(s, i, t).map_err(|n| format!("keys: {n}"))?;
-                agree!(place.length, track.keyframes.len(), "how many keys track {t} has");
+                let (place, length) = (layout::keys(s, i, t), track.keyframes.len());
+                agree!(
+                    motion::keys(s, i, t),
+                    Ok(motion::Place { place, length }),
+                    "where the keys of track {t} stand, and how many there are"
+                );
                 let mut changes = Vec::new();
                 for (k, key) in track.keyframes.iter().enumerate() {
-                    let bytes = &s[place.place + 4 * k..][..4];
+                    let bytes = &s[place + 4 * k..][..4];
                     let [lo, hi] = key.frame.to_le_bytes();
                     agree!(bytes, &[lo, hi, key.texture_idx, key.palette_idx][..], "key {k} of track {t}");
                     changes.push(key.frame);
@@ -190,7 +206,13 @@ fn reach(s: &[u8], i: usize, reach: usize) -> Agreed {
 }
 
 /// A curve of numbers: its record, and the values that stand at its place.
-fn scalar(s: &[u8], ours: motion::Result<motion::Curve<f64>>, theirs: &Curve<f64>, value: &dyn Fn(&[u8], usize, usize) -> f64) -> Agreed {
+fn scalar(
+    s: &[u8],
+    ours: motion::Result<motion::Curve<f64>>,
+    theirs: &Curve<f64>,
+    list: layout::List,
+    value: &dyn Fn(&[u8], usize, usize) -> f64,
+) -> Agreed {
     let ours = ours.map_err(|n| n.to_string())?;
     match (ours, theirs) {
         (motion::Curve::None, Curve::None) => Ok(()),
@@ -200,6 +222,7 @@ fn scalar(s: &[u8], ours: motion::Result<motion::Curve<f64>>, theirs: &Curve<f64
         }
         (motion::Curve::List(l), Curve::Samples { start_frame, end_frame, values }) => {
             agree!((l.start, l.end, l.length), (*start_frame, *end_frame, values.len()), "start, end and length");
+            agree!(Some((l.place, l.size)), list, "place and bytes per value, as the layout has them");
             for (k, v) in values.iter().enumerate() {
                 agree!(value(s, l.place + l.size * k, l.size).to_bits(), v.to_bits(), "value {k}");
             }
@@ -209,7 +232,13 @@ fn scalar(s: &[u8], ours: motion::Result<motion::Curve<f64>>, theirs: &Curve<f64
     }
 }
 
-fn rotation(s: &[u8], entry: usize, ours: motion::Result<motion::Curve<motion::Rotation>>, theirs: &Curve<Matrix3<f64>>) -> Agreed {
+fn rotation(
+    s: &[u8],
+    entry: usize,
+    ours: motion::Result<motion::Curve<motion::Rotation>>,
+    theirs: &Curve<Matrix3<f64>>,
+    list: layout::List,
+) -> Agreed {
     let ours = ours.map_err(|n| n.to_string())?;
     let nine = |m: [[f64; 3]; 3]| m.iter().flatten().map(|x| x.to_bits()).collect::<Vec<_>>();
     match (ours, theirs) {
@@ -219,7 +248,8 @@ fn rotation(s: &[u8], entry: usize, ours: motion::Result<motion::Curve<motion::R
             Ok(())
         }
         (motion::Curve::List(l), Curve::Samples { start_frame, end_frame, values }) => {
-            agree!((l.start, l.end, l.length, l.size), (*start_frame, *end_frame, values.len(), 2), "start, end, length and size");
+            agree!((l.start, l.end, l.length), (*start_frame, *end_frame, values.len()), "start, end and length");
+            agree!(Some((l.place, l.size)), list, "place and bytes per value, as the layout has them");
             let (pivot, basis) = (entry + word32(s, entry + 12) as usize, entry + word32(s, entry + 16) as usize);
             for (k, v) in values.iter().enumerate() {
                 let x = word16(s, l.place + 2 * k);
@@ -251,14 +281,16 @@ fn object(s: &[u8], i: usize, o: usize, offset: usize, curves: TRSCurves, rng: &
     let translation =
         |s: &[u8], p: usize, size: usize| if size == 4 { fix32(word32(s, p), 1, 19, 12) } else { fix16(word16(s, p), 1, 3, 12) };
     let scale = |s: &[u8], p: usize, size: usize| if size == 8 { fix32(word32(s, p), 1, 19, 12) } else { fix16(word16(s, p), 1, 3, 12) };
+    let lists = layout::object(s, i, o);
     for axis in 0..3 {
-        scalar(s, motion::translation_curve(s, i, o, axis), &curves.trans[axis], &translation)
+        scalar(s, motion::translation_curve(s, i, o, axis), &curves.trans[axis], lists[axis], &translation)
             .map_err(|m| format!("translation {axis}: {m}"))?;
-        scalar(s, motion::scale_curve(s, i, o, axis), &curves.scale[axis], &scale).map_err(|m| format!("scale {axis}: {m}"))?;
+        scalar(s, motion::scale_curve(s, i, o, axis), &curves.scale[axis], lists[4 + axis], &scale)
+            .map_err(|m| format!("scale {axis}: {m}"))?;
         counts.curves += 2;
     }
     agree!(motion::translation_curve(s, i, o, 3), Err(Refusal(9)), "axis 3");
-    rotation(s, offset, motion::rotation_curve(s, i, o), &curves.rotation)?;
+    rotation(s, offset, motion::rotation_curve(s, i, o), &curves.rotation, lists[3])?;
     counts.curves += 1;
 
     let mut around = ends(&curves.rotation);
@@ -268,10 +300,11 @@ fn object(s: &[u8], i: usize, o: usize, offset: usize, curves: TRSCurves, rng: &
         agree!(m, Ok(bits(curves.sample_at(frame).columns)), "the matrix at frame {frame}");
         counts.matrices += 1;
     }
-    let mut out = vec![3; rng.below(140)];
-    let before = out.clone();
-    let small = out.len() < 128;
-    agree!(motion::matrix_bytes(s, i, o, 1, &mut out).is_err(), small, "a matrix into {} bytes", before.len());
+    let room = rng.below(140);
+    let before = rng.bytes(room);
+    let mut out = before.clone();
+    let small = room < 128;
+    agree!(motion::matrix_bytes(s, i, o, 1, &mut out).is_err(), small, "a matrix into {room} bytes");
     let written = if small { 0 } else { 128 };
     agree!(&out[written..], &before[written..], "what stands behind the matrix");
 
@@ -298,24 +331,23 @@ fn resample(s: &[u8], i: usize, o: usize, call: Resample, axes: [Curve<f64>; 3],
         1 => needed,
         _ => needed + rng.below(5),
     };
-    let before: Vec<f64> = (0..room).map(|k| k as f64 + 0.25).collect();
-    let mut out = before.clone();
-    let ours = call(s, i, o, &mut out, place);
-    let mut after = before.clone();
+    let mut after = fill::floats(rng, room);
+    let mut out = after.clone();
+    let ours = call(s, i, o, as_floats(&mut out), place);
     let expected = match expected {
         Err(n) => Err(Refusal(n)),
         Ok(_) if room < needed => Err(Refusal(11)),
         Ok((span, values)) => {
             for (k, v) in values.iter().enumerate() {
-                after[place + 3 * k..][..3].copy_from_slice(&[v.x, v.y, v.z]);
+                after[place + 3 * k..][..3].copy_from_slice(&[v.x, v.y, v.z].map(f64::to_bits));
             }
             Ok(motion::Resampled { span, frames: values.len() })
         }
     };
     agree!(ours, expected, "the answer, from place {place} in {room}");
-    let as_bits = |floats: &[f64]| floats.iter().map(|x| x.to_bits()).collect::<Vec<_>>();
-    agree!(as_bits(&out), as_bits(&after), "the slice, from place {place} in {room}");
-    let far = call(s, i, o, &mut out, usize::MAX).err();
+    agree!(&out, &after, "the bits in the slice, from place {place} in {room}");
+    let far = call(s, i, o, as_floats(&mut out), usize::MAX).err();
     agree!(far, Some(Refusal(if ours == Err(Refusal(10)) { 10 } else { 11 })), "the last place there is");
+    agree!(out, after, "the bits in the slice, from the last place there is");
     Ok(())
 }

@@ -1,5 +1,6 @@
 //! What a cut does, tried on the compiled code: every call on the front, with other bytes behind it, and on the section as it was.
 use crate::agree::{Agreed, Counts};
+use crate::fill::{self, as_floats};
 use crate::rng::Rng;
 
 /// The number of a call, and all that it answers as words.
@@ -24,8 +25,23 @@ fn curve<T>(c: motion::Curve<T>, say: impl Fn(T) -> Vec<u64>) -> Vec<u64> {
     }
 }
 
+/// What slices hold before each call, floats as bits.
+struct Fill {
+    floats: Vec<u64>,
+    bytes: Vec<u8>,
+}
+
+/// The elements before and behind the written ones, which start at `place`, are as they were.
+fn kept<T: PartialEq>(before: &[T], after: &[T], place: usize, written: usize) -> Result<(), String> {
+    let end = place + written;
+    match before[..place] == after[..place] && before[end..] == after[end..] {
+        true => Ok(()),
+        false => Err("another element than those to be written has changed".into()),
+    }
+}
+
 /// What every call answers on an entry: its index, its frames and its objects or tracks, past the last too.
-fn answers(s: &[u8], i: usize, count: usize) -> Vec<Answer> {
+fn answers(s: &[u8], i: usize, count: usize, fill: &Fill) -> Result<Vec<Answer>, String> {
     let mut all = vec![words(motion::check(s, i), |r| {
         let name = u128::from_le_bytes(r.name);
         vec![name as u64, (name >> 64) as u64, r.reach as u64, r.frames as u64, r.count as u64]
@@ -50,19 +66,25 @@ fn answers(s: &[u8], i: usize, count: usize) -> Vec<Answer> {
         all.push(words(motion::pattern_name(s, i, k), name));
         all.push(words(motion::keys(s, i, k), place));
         for resample in [motion::resample_translation, motion::resample_scale] {
-            let mut out = [0.5; 40];
-            let mut answer = words(resample(s, i, k, &mut out, 2), |r| {
+            let mut out = fill.floats.clone();
+            let resampled = resample(s, i, k, as_floats(&mut out), 2);
+            kept(&fill.floats, &out, 2, resampled.map_or(0, |r| 3 * r.frames))?;
+            let mut answer = words(resampled, |r| {
                 let (start, end) = r.span.unwrap_or((9, 9));
                 vec![r.span.is_some() as u64, start as u64, end as u64, r.frames as u64]
             });
             // what stands in the slice is a part of the answer
-            answer.extend(floats(&out));
+            answer.extend(out);
             all.push(answer);
         }
-        let mut out = [1; 120];
-        all.push(words(motion::matrix_bytes(s, i, k, 0, &mut out), |_| vec![]));
+        for room in [120, 131] {
+            let mut out = fill.bytes[..room].to_vec();
+            let matrix = motion::matrix_bytes(s, i, k, 0, &mut out);
+            kept(&fill.bytes[..room], &out, 0, matrix.map_or(0, |_| 128))?;
+            all.push(words(matrix, |_| out.iter().map(|&b| b as u64).collect()));
+        }
     }
-    all
+    Ok(all)
 }
 
 /// Every cut of a section.
@@ -71,13 +93,14 @@ pub fn every(s: &[u8], rng: &mut Rng, counts: &mut Counts) -> Agreed {
     for i in 0..entries {
         let record = motion::check(s, i);
         let count = record.map_or(1, |r| r.count);
-        let uncut = answers(s, i, count);
+        let fill = Fill { floats: fill::floats(rng, 40), bytes: rng.bytes(131) };
+        let uncut = answers(s, i, count, &fill)?;
         for k in 0..=s.len() {
             counts.cuts += 1;
-            let front = answers(&s[..k], i, count);
+            let front = answers(&s[..k], i, count, &fill)?;
             let n = rng.below(20);
             let tail = [s[..k].to_vec(), rng.bytes(n)].concat();
-            let with_tail = answers(&tail, i, count);
+            let with_tail = answers(&tail, i, count, &fill)?;
             for (call, before) in front.iter().enumerate() {
                 let at = |what| Err(format!("entry {i}, cut at {k}, call {call}: {what}"));
                 if before[0] != 0 && before[0] != 2 && with_tail[call][0] != before[0] {

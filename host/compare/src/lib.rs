@@ -1,6 +1,8 @@
 //! The parts of the comparison: sections, what the Rust answers on them, and whether the proved calls agree.
 pub mod agree;
 pub mod cuts;
+pub mod fill;
+pub mod layout;
 pub mod oracle;
 pub mod replay;
 pub mod rng;

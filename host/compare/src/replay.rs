@@ -1,14 +1,15 @@
 //! The stored list that crates/replay runs with no Rust at hand: sections with calls on them, and what the Rust answers to each.
 //!
-//! The list is blocks: the section's length in two bytes, the section, how many calls there are in one byte, and each call in 24 bytes:
-//! its code, entry, object or track, axis or channel, the frame in two bytes, the place and the room of a lent slice, a name of sixteen
-//! bytes. An answer is a line: words of sixteen hex digits, the number first. Where the Rust's answer is one of the intended differences
-//! (9 to 12), document 01's number stands.
+//! The list is how many calls there are, in two bytes; each call in 32 bytes: its code, entry, object or track, axis or channel, the frame in
+//! two bytes, the place and the room of a lent slice, a name of sixteen bytes, the section's place in the list and its length, four bytes
+//! each; and then the sections. An answer is a line: the number, then every word and every float's bits that the call was lent, as they
+//! stand afterwards, in sixteen hex digits, and every byte in two. Where the Rust's answer is one of the intended differences (9 to 12),
+//! document 01's number stands.
+use crate::layout;
 use crate::oracle::{self, Entry, Value};
 use crate::rng::Rng;
 use crate::sections;
 use apicula::nitro::animation::Curve;
-use std::fmt::Write;
 
 #[derive(Clone, Copy, Default)]
 struct Call {
@@ -40,10 +41,30 @@ const RESAMPLE_SCALE: u8 = 14;
 const MATRIX: u8 = 15;
 const CHECK: u8 = 16;
 
+/// What stands in the words and floats before a call, and in the bytes. No answer is such a word or float.
+const FILL: u64 = 0x5555_5555_5555_5555;
+const BYTE: u8 = 0x55;
+
+/// All that a call is lent, floats as their bits.
+struct Lent {
+    words: Vec<u64>,
+    floats: Vec<u64>,
+    bytes: Vec<u8>,
+}
+
+impl Lent {
+    fn line(&self, number: u32) -> String {
+        let words = [&[number as u64], &self.words[..], &self.floats].concat();
+        let all = words.iter().map(|w| format!("{w:016x}")).chain(self.bytes.iter().map(|b| format!("{b:02x}")));
+        all.collect::<Vec<_>>().join(" ") + "\n"
+    }
+}
+
 impl Call {
-    fn bytes(&self) -> Vec<u8> {
+    fn bytes(&self, section: usize, length: usize) -> Vec<u8> {
         let [lo, hi] = self.frame.to_le_bytes();
-        [&[self.code, self.entry, self.index, self.part, lo, hi, self.place, self.room][..], &self.name].concat()
+        let head = [self.code, self.entry, self.index, self.part, lo, hi, self.place, self.room];
+        [&head[..], &self.name, &(section as u32).to_le_bytes(), &(length as u32).to_le_bytes()].concat()
     }
 
     /// The stamp that the call takes; the first three take all.
@@ -55,26 +76,53 @@ impl Call {
             _ => Some(b"JNT0"),
         }
     }
-}
 
-/// The words after the number, or the number of a refusal.
-type Answer = Result<Vec<u64>, u32>;
-
-fn name_words(name: [u8; 16]) -> Vec<u64> {
-    let n = u128::from_le_bytes(name);
-    vec![n as u64, (n >> 64) as u64]
-}
-
-fn curve<T: Copy>(c: &Curve<T>, say: impl Fn(T) -> Vec<u64>) -> Vec<u64> {
-    match c {
-        Curve::None => vec![0],
-        Curve::Constant(v) => [vec![1], say(*v)].concat(),
-        Curve::Samples { start_frame, end_frame, values } => vec![2, *start_frame as u64, *end_frame as u64, values.len() as u64],
+    fn lent(&self) -> Lent {
+        let (words, floats, bytes) = match self.code {
+            RECORD => (5, 0, 0),
+            TRANSLATION | SCALE | CHANNEL => (6, 1, 0),
+            ROTATION => (6, 9, 0),
+            UV => (0, 16, 0),
+            RESAMPLE_TRANSLATION | RESAMPLE_SCALE => (4, 40, 0),
+            MATRIX => (0, 0, 140),
+            CHECK => (0, 0, 0),
+            _ => (2, 0, 0),
+        };
+        Lent { words: vec![FILL; words], floats: vec![FILL; floats], bytes: vec![BYTE; bytes] }
     }
+}
+
+fn put<T: Copy>(lent: &mut [T], values: &[T]) {
+    lent[..values.len()].copy_from_slice(values);
+}
+
+fn name_words(name: [u8; 16]) -> [u64; 2] {
+    let n = u128::from_le_bytes(name);
+    [n as u64, (n >> 64) as u64]
 }
 
 fn floats<'a>(m: impl IntoIterator<Item = &'a f64>) -> Vec<u64> {
     m.into_iter().map(|x| x.to_bits()).collect()
+}
+
+/// The record of a curve, whose list stands as the layout says.
+fn put_curve<T: Copy>(lent: &mut Lent, c: &Curve<T>, list: layout::List, say: impl Fn(T) -> Vec<u64>) {
+    match c {
+        Curve::None => put(&mut lent.words, &[0]),
+        Curve::Constant(v) => {
+            put(&mut lent.words, &[1]);
+            put(&mut lent.floats, &say(*v));
+        }
+        Curve::Samples { start_frame, end_frame, values } => {
+            let (place, size) = list.unwrap();
+            put(&mut lent.words, &[2, *start_frame as u64, *end_frame as u64, place as u64, values.len() as u64, size as u64]);
+        }
+    }
+}
+
+fn put_record(s: &[u8], at: usize, name: [u8; 16], frames: u16, count: usize, lent: &mut Lent) {
+    put(&mut lent.words, &name_words(name));
+    put(&mut lent.words[2..], &[reach(s, at), frames as u64, count as u64]);
 }
 
 /// The least front that the Rust accepts the entry in.
@@ -83,8 +131,8 @@ fn reach(s: &[u8], entry: usize) -> u64 {
     (0..=s.len()).find(|&k| accepts(k)).unwrap() as u64
 }
 
-/// What the Rust answers. `slice` is the lent slice as words, where there is one.
-fn answer(s: &[u8], call: &Call, slice: &mut Vec<u64>) -> Answer {
+/// What the Rust answers, and leaves in what is lent.
+fn answer(s: &[u8], call: &Call, lent: &mut Lent) -> Result<(), u32> {
     let entries = oracle::read(s);
     if let Some(stamp) = call.stamp() {
         if s.len() >= 4 && &s[..4] != stamp {
@@ -93,10 +141,11 @@ fn answer(s: &[u8], call: &Call, slice: &mut Vec<u64>) -> Answer {
     }
     let mut entries: Vec<Entry> = entries?;
     if call.code == FIND {
-        return Ok(match entries.iter().position(|e| e.name == call.name) {
-            Some(i) => vec![1, i as u64],
-            None => vec![0],
-        });
+        match entries.iter().position(|e| e.name == call.name) {
+            Some(i) => put(&mut lent.words, &[1, i as u64]),
+            None => put(&mut lent.words, &[0]),
+        }
+        return Ok(());
     }
     let at = call.entry as usize;
     if at >= entries.len() {
@@ -108,83 +157,86 @@ fn answer(s: &[u8], call: &Call, slice: &mut Vec<u64>) -> Answer {
     }
     let value = entry.value?;
     let index = call.index as usize;
-    let frame = call.frame;
+    let part = call.part as usize;
     match value {
-        _ if call.code == CHECK => Ok(vec![]),
+        _ if call.code == CHECK => {}
         Value::Jnt(a) => {
             if call.code == RECORD {
-                return Ok([name_words(entry.name), vec![reach(s, at), a.num_frames as u64, a.objects_curves.len() as u64]].concat());
+                put_record(s, at, entry.name, a.num_frames, a.objects_curves.len(), lent);
+                return Ok(());
             }
-            let Some(curves) = a.objects_curves.into_iter().nth(index) else { return Err(9) };
-            let axis = call.part as usize;
+            let curves = a.objects_curves.into_iter().nth(index).ok_or(9u32)?;
+            let lists = layout::object(s, at, index);
             match call.code {
-                TRANSLATION | SCALE if axis >= 3 => Err(9),
-                TRANSLATION => Ok(curve(&curves.trans[axis], |x| vec![x.to_bits()])),
-                SCALE => Ok(curve(&curves.scale[axis], |x| vec![x.to_bits()])),
-                ROTATION => Ok(curve(&curves.rotation, |m| floats(m.columns.iter().flatten()))),
+                TRANSLATION => put_curve(lent, curves.trans.get(part).ok_or(9u32)?, lists[part], |x| vec![x.to_bits()]),
+                SCALE => put_curve(lent, curves.scale.get(part).ok_or(9u32)?, lists[4 + part], |x| vec![x.to_bits()]),
+                ROTATION => put_curve(lent, &curves.rotation, lists[3], |m| floats(m.columns.iter().flatten())),
+                MATRIX if call.room < 128 => return Err(11),
                 MATRIX => {
-                    if call.room < 128 {
-                        return Err(11);
-                    }
-                    let m = curves.sample_at(frame);
-                    for (k, byte) in m.columns.iter().flatten().flat_map(|x| x.to_le_bytes()).enumerate() {
-                        slice[k] = byte as u64;
-                    }
-                    Ok(vec![])
+                    let m = curves.sample_at(call.frame);
+                    let bytes: Vec<u8> = m.columns.iter().flatten().flat_map(|x| x.to_le_bytes()).collect();
+                    put(&mut lent.bytes, &bytes);
                 }
                 _ => {
                     let translation = call.code == RESAMPLE_TRANSLATION;
                     let axes = if translation { curves.trans } else { curves.scale };
-                    let (span, values) = match oracle::resampled(axes, translation) {
-                        None => return Err(10),
-                        Some(Curve::Samples { start_frame, end_frame, values }) => {
+                    let (words, values) = match oracle::resampled(axes, translation).ok_or(10u32)? {
+                        Curve::Samples { start_frame, end_frame, values } => {
                             (vec![1, start_frame as u64, end_frame as u64, values.len() as u64], values)
                         }
-                        Some(_) => (vec![0], vec![]),
+                        _ => (vec![0], vec![]),
                     };
-                    let place = call.place as usize;
-                    if place + 3 * values.len() > slice.len() {
+                    let (place, room) = (call.place as usize, (call.room as usize).min(40));
+                    if place + 3 * values.len() > room {
                         return Err(11);
                     }
+                    put(&mut lent.words, &words);
                     for (k, v) in values.iter().enumerate() {
-                        slice[place + 3 * k..][..3].copy_from_slice(&[v.x, v.y, v.z].map(f64::to_bits));
+                        put(&mut lent.floats[place + 3 * k..], &[v.x, v.y, v.z].map(f64::to_bits));
                     }
-                    Ok(span)
                 }
             }
         }
         Value::Srt(a) => {
             if call.code == RECORD {
-                return Ok([name_words(entry.name), vec![reach(s, at), a.num_frames as u64, a.tracks.len() as u64]].concat());
+                put_record(s, at, entry.name, a.num_frames, a.tracks.len(), lent);
+                return Ok(());
             }
             let track = a.tracks.get(index).ok_or(9u32)?;
             match call.code {
-                CHANNEL => Ok(curve(&track.channels.get(call.part as usize).ok_or(9u32)?.curve, |x| vec![x.to_bits()])),
-                UV => Ok(floats(track.eval_uv_mat(frame).columns.iter().flatten())),
-                _ => Ok(name_words(track.name.0)),
+                CHANNEL => {
+                    let channel = track.channels.get(part).ok_or(9u32)?;
+                    put_curve(lent, &channel.curve, Some(layout::channel(s, at, index, part)), |x| vec![x.to_bits()]);
+                }
+                UV => put(&mut lent.floats, &floats(track.eval_uv_mat(call.frame).columns.iter().flatten())),
+                _ => put(&mut lent.words, &name_words(track.name.0)),
             }
         }
         Value::Pat(a) => {
-            match call.code {
+            let words = match call.code {
                 RECORD => {
-                    return Ok([name_words(entry.name), vec![reach(s, at), a.num_frames as u64, a.material_tracks.len() as u64]].concat())
+                    put_record(s, at, entry.name, a.num_frames, a.material_tracks.len(), lent);
+                    return Ok(());
                 }
-                TEXTURES => return Ok(vec![a.texture_names.len() as u64]),
-                PALETTES => return Ok(vec![a.palette_names.len() as u64]),
-                _ => {}
-            }
-            let track = a.material_tracks.get(index).ok_or(9u32)?;
-            match call.code {
-                KEYS => Ok(vec![track.keyframes.len() as u64]),
-                CHOICE if track.keyframes.is_empty() => Err(10),
-                CHOICE => {
-                    let (texture, palette) = track.sample(frame);
-                    Ok(vec![texture as u64, palette as u64])
+                TEXTURES => [layout::textures(s, at) as u64, a.texture_names.len() as u64],
+                PALETTES => [layout::palettes(s, at) as u64, a.palette_names.len() as u64],
+                _ => {
+                    let track = a.material_tracks.get(index).ok_or(9u32)?;
+                    match call.code {
+                        KEYS => [layout::keys(s, at, index) as u64, track.keyframes.len() as u64],
+                        CHOICE if track.keyframes.is_empty() => return Err(10),
+                        CHOICE => {
+                            let (texture, palette) = track.sample(call.frame);
+                            [texture as u64, palette as u64]
+                        }
+                        _ => name_words(track.name.0),
+                    }
                 }
-                _ => Ok(name_words(track.name.0)),
-            }
+            };
+            put(&mut lent.words, &words);
         }
     }
+    Ok(())
 }
 
 /// A call of some kind on a section.
@@ -209,7 +261,7 @@ fn call(s: &[u8], code: u8, rng: &mut Rng) -> Call {
         room: match code {
             MATRIX if s.starts_with(b"JNT0") => 126 + rng.below(6) as u8,
             MATRIX => 2,
-            _ => rng.below(40) as u8,
+            _ => rng.below(41) as u8,
         },
         name,
     }
@@ -218,55 +270,46 @@ fn call(s: &[u8], code: u8, rng: &mut Rng) -> Call {
 /// The list and the answers: bytes and lines.
 pub fn stored(sections: usize) -> (Vec<u8>, String) {
     let rng = &mut Rng::new(86);
-    let (mut list, mut lines) = (Vec::new(), String::new());
-    let mut kept = 0;
-    while kept < sections {
-        let s = match kept {
+    let mut kept = Vec::new();
+    while kept.len() < sections {
+        let s = match kept.len() {
             0 => motion::example::WALK.to_vec(),
             1 => b"TEX0".to_vec(),
             2 => b"JNT".to_vec(),
             3 => sections::hundred(),
             // the info block's first byte, and the animation's frames
-            4 | 5 => {
+            n @ (4 | 5) => {
                 let mut s = motion::example::WALK.to_vec();
-                let (at, byte) = if kept == 4 { (8, 1) } else { (52, 0) };
+                let (at, byte) = if n == 4 { (8, 1) } else { (52, 0) };
                 s[at] = byte;
                 s
             }
-            _ if kept % 3 == 0 => sections::whole(rng),
+            n if n % 3 == 0 => sections::whole(rng),
             _ => sections::any(rng),
         };
         if s.len() > 420 {
             continue;
         }
-        kept += 1;
-        let codes: Vec<u8> = match s.get(..4) {
-            Some(b"JNT0") => {
-                vec![RECORD, FIND, TRANSLATION, ROTATION, SCALE, RESAMPLE_TRANSLATION, RESAMPLE_SCALE, MATRIX, CHECK, CHOICE]
-            }
-            Some(b"SRT0") => vec![RECORD, FIND, CHANNEL, CHANNEL, UV, UV, MATERIAL_NAME, MATRIX],
-            Some(b"PAT0") => vec![RECORD, FIND, PATTERN_NAME, TEXTURES, PALETTES, KEYS, CHOICE, CHOICE, UV],
-            _ => vec![RECORD, FIND, CHECK, MATRIX],
+        let codes: &[u8] = match s.get(..4) {
+            Some(b"JNT0") => &[RECORD, FIND, TRANSLATION, ROTATION, SCALE, RESAMPLE_TRANSLATION, RESAMPLE_SCALE, MATRIX, CHECK, CHOICE],
+            Some(b"SRT0") => &[RECORD, FIND, CHANNEL, CHANNEL, UV, UV, MATERIAL_NAME, MATRIX],
+            Some(b"PAT0") => &[RECORD, FIND, PATTERN_NAME, TEXTURES, PALETTES, KEYS, CHOICE, CHOICE, UV],
+            _ => &[RECORD, FIND, CHECK, MATRIX],
         };
-        list.extend((s.len() as u16).to_le_bytes());
-        list.extend(&s);
-        list.push(codes.len() as u8);
-        for code in codes {
-            let c = call(&s, code, rng);
-            list.extend(c.bytes());
-            let (lent, old) = match code {
-                RESAMPLE_TRANSLATION | RESAMPLE_SCALE => (c.room as usize, 0.5f64.to_bits()),
-                MATRIX => (c.room as usize, 7),
-                _ => (0, 0),
-            };
-            let mut slice = vec![old; lent];
-            let (number, words) = match answer(&s, &c, &mut slice) {
-                Ok(words) => (0, words),
-                Err(n) => (n as u64, vec![]),
-            };
-            let all: Vec<_> = [vec![number], words, slice].concat().iter().map(|w| format!("{w:016x}")).collect();
-            writeln!(lines, "{}", all.join(" ")).unwrap();
-        }
+        let calls: Vec<Call> = codes.iter().map(|&code| call(&s, code, rng)).collect();
+        kept.push((s, calls));
     }
+    let count: usize = kept.iter().map(|(_, calls)| calls.len()).sum();
+    let (mut list, mut behind, mut lines) = ((count as u16).to_le_bytes().to_vec(), Vec::new(), String::new());
+    for (s, calls) in kept {
+        for c in calls {
+            list.extend(c.bytes(2 + 32 * count + behind.len(), s.len()));
+            let mut lent = c.lent();
+            let number = answer(&s, &c, &mut lent).err().unwrap_or(0);
+            lines += &lent.line(number);
+        }
+        behind.extend(s);
+    }
+    list.extend(behind);
     (list, lines)
 }

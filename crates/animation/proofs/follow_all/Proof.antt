@@ -1,20 +1,19 @@
 -- `animation::follow_all` meets its contract. Assumes nothing.
 use borrow.Author.Needs.{needs}
 use mathlib.Core.Path.{_∙_}
-use Rattle.animation.proofs.AnimationLaws.{leads-on, leads-out, leads-end}
 use Prim.Native.Nat.{_-_, _≤_}
 use mathlib.Core.Path.{_≡_, refl}
 use native.Mathlib.Omega.{arith}
 use lib.ListN.{drop}
 use Rattle.util.specs.View.{little, view}
-use Rattle.util.proofs.Each.{rest}
+use Rattle.util.proofs.Each.{rest, items-end, item-whole, item-refused}
 use Rattle.animation.specs.Animation.{reference}
 use Rattle.animation.proofs.follow_all.Statement.{statement}
 use Rattle.animation.proofs.follow_all.Tie as tie
 
 abbrev Inv-loop : tie.InvT-loop
 Inv-loop s t list n reach far₀ i₀ far i =
-    (i ≤ n) × (rest (reference t) s (view 2 little n (drop list s)) 0 i far ≡ rest (reference t) s (view 2 little n (drop list s)) 0 0 reach)
+    (i ≤ n) × (rest (reference (t .pivot) (t .basis)) s (view 2 little n (drop list s)) 0 i far ≡ rest (reference (t .pivot) (t .basis)) s (view 2 little n (drop list s)) 0 0 reach)
 
 abbrev μ-loop : tie.MeasureT-loop
 μ-loop s t list n reach far₀ i₀ far i = n - i
@@ -31,21 +30,12 @@ add-word16 c = omega arith
 word16-requires : tie.Need-word16-requires Inv-loop μ-loop
 word16-requires c κs = omega arith
 
-follow-requires : tie.Need-follow-requires Inv-loop μ-loop
-follow-requires c κs = search needs
-
-enum-known-c : tie.Need-enum-known-c Inv-loop μ-loop
-enum-known-c c = search needs
-
 returns : tie.Need-returns Inv-loop μ-loop
 returns c =
     let l = c .before .before .before .before .before .before in
     let a = l .before .before .args in
     let f = c .before .before .before in
-    leads-out (reference (a .t)) (a .s .now) (a .list) (a .n) (l .loop .i) (l .loop .far) (omega arith) _ (f .before .word16 .ensures) _ (f .follow .ensures) _ (c .before .c .given .1) ∙ l .loop .inv .1
-
-enum-known-m : tie.Need-enum-known-m Inv-loop μ-loop
-enum-known-m c = search needs
+    item-refused (reference (a .t .pivot) (a .t .basis)) (a .s .now) 2 little (a .list) (a .n) 0 (l .loop .i) (l .loop .far) (omega arith) _ (f .before .word16 .ensures) _ (f .follow .ensures) _ (c .before .c .given .1) ∙ l .loop .inv .1
 
 add-i : tie.Need-add-i Inv-loop μ-loop
 add-i c = omega arith
@@ -58,13 +48,13 @@ loop-again c =
     let l = c .before .before .before .before .before .before in
     let a = l .before .before .args in
     let f = c .before .before .before in
-    (omega arith, leads-on (reference (a .t)) (a .s .now) (a .list) (a .n) (l .loop .i) (l .loop .far) (omega arith) _ (f .before .word16 .ensures) _ (f .follow .ensures) _ (c .before .m .given .1) ∙ l .loop .inv .1)
+    (omega arith, item-whole (reference (a .t .pivot) (a .t .basis)) (a .s .now) 2 little (a .list) (a .n) 0 (l .loop .i) (l .loop .far) (omega arith) _ (f .before .word16 .ensures) _ (f .follow .ensures) _ (c .before .m .given .1) ∙ l .loop .inv .1)
 
 returns-2 : tie.Need-returns-2 Inv-loop μ-loop
 returns-2 c =
     let l = c .before .loop in
     let a = c .before .before .before .args in
-    leads-end (reference (a .t)) (a .s .now) (a .list) (a .n) (l .i) (l .far) (omega arith) ∙ l .inv .1
+    items-end (reference (a .t .pivot) (a .t .basis)) (a .s .now) 2 little (a .list) (a .n) 0 (l .i) (l .far) (omega arith) ∙ l .inv .1
 
 pub follow-all-spec : {M : Type 1} → statement M
 follow-all-spec =
@@ -76,10 +66,10 @@ follow-all-spec =
     mul-word16
     add-word16
     word16-requires
-    follow-requires
-    enum-known-c
+    (λ c κs. search needs)
+    (λ c. search needs)
     returns
-    enum-known-m
+    (λ c. search needs)
     add-i
     loop-less
     loop-again

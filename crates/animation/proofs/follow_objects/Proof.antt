@@ -5,14 +5,13 @@ use mathlib.Core.Path.{_≡_, refl, _∙_}
 use native.Mathlib.Omega.{arith}
 use lib.ListN.{drop}
 use Rattle.util.specs.View.{little, view}
-use Rattle.util.proofs.Each.{rest}
+use Rattle.util.proofs.Each.{rest, items-end, item-whole, item-refused}
 use Rattle.animation.specs.Animation.{object}
-use Rattle.animation.proofs.AnimationLaws.{leads-on, leads-out, leads-end}
 use Rattle.animation.proofs.follow_objects.Statement.{statement}
 use Rattle.animation.proofs.follow_objects.Tie as tie
 
 abbrev Inv-loop : tie.InvT-loop
-Inv-loop s t n reach far₀ i₀ far i = (i ≤ n) × (rest (object t) s (view 2 little n (drop 20 s)) 0 i far ≡ rest (object t) s (view 2 little n (drop 20 s)) 0 0 reach)
+Inv-loop s t n reach far₀ i₀ far i = (i ≤ n) × (rest (object (t .pivot) (t .basis)) s (view 2 little n (drop 20 s)) 0 i far ≡ rest (object (t .pivot) (t .basis)) s (view 2 little n (drop 20 s)) 0 0 reach)
 
 abbrev μ-loop : tie.MeasureT-loop
 μ-loop s t n reach far₀ i₀ far i = n - i
@@ -32,21 +31,12 @@ word16-requires c κs = omega arith
 cast-follow-object : tie.Need-cast-follow-object Inv-loop μ-loop
 cast-follow-object c = omega arith
 
-follow-object-requires : tie.Need-follow-object-requires Inv-loop μ-loop
-follow-object-requires c κs = search needs
-
-enum-known-c : tie.Need-enum-known-c Inv-loop μ-loop
-enum-known-c c = search needs
-
 returns : tie.Need-returns Inv-loop μ-loop
 returns c =
     let l = c .before .before .before .before .before .before in
     let a = l .before .before .args in
     let f = c .before .before .before in
-    leads-out (object (a .t)) (a .s .now) 20 (a .n) (l .loop .i) (l .loop .far) (omega arith) _ (f .before .word16 .ensures) _ (f .follow-object .ensures) _ (c .before .c .given .1) ∙ l .loop .inv .1
-
-enum-known-m : tie.Need-enum-known-m Inv-loop μ-loop
-enum-known-m c = search needs
+    item-refused (object (a .t .pivot) (a .t .basis)) (a .s .now) 2 little 20 (a .n) 0 (l .loop .i) (l .loop .far) (omega arith) _ (f .before .word16 .ensures) _ (f .follow-object .ensures) _ (c .before .c .given .1) ∙ l .loop .inv .1
 
 add-i : tie.Need-add-i Inv-loop μ-loop
 add-i c = omega arith
@@ -59,13 +49,13 @@ loop-again c =
     let l = c .before .before .before .before .before .before in
     let a = l .before .before .args in
     let f = c .before .before .before in
-    (omega arith, leads-on (object (a .t)) (a .s .now) 20 (a .n) (l .loop .i) (l .loop .far) (omega arith) _ (f .before .word16 .ensures) _ (f .follow-object .ensures) _ (c .before .m .given .1) ∙ l .loop .inv .1)
+    (omega arith, item-whole (object (a .t .pivot) (a .t .basis)) (a .s .now) 2 little 20 (a .n) 0 (l .loop .i) (l .loop .far) (omega arith) _ (f .before .word16 .ensures) _ (f .follow-object .ensures) _ (c .before .m .given .1) ∙ l .loop .inv .1)
 
 returns-2 : tie.Need-returns-2 Inv-loop μ-loop
 returns-2 c =
     let l = c .before .loop in
     let a = c .before .before .before .args in
-    leads-end (object (a .t)) (a .s .now) 20 (a .n) (l .i) (l .far) (omega arith) ∙ l .inv .1
+    items-end (object (a .t .pivot) (a .t .basis)) (a .s .now) 2 little 20 (a .n) 0 (l .i) (l .far) (omega arith) ∙ l .inv .1
 
 pub follow-objects-spec : {M : Type 1} → statement M
 follow-objects-spec =
@@ -78,10 +68,10 @@ follow-objects-spec =
     add-word16
     word16-requires
     cast-follow-object
-    follow-object-requires
-    enum-known-c
+    (λ c κs. search needs)
+    (λ c. search needs)
     returns
-    enum-known-m
+    (λ c. search needs)
     add-i
     loop-less
     loop-again

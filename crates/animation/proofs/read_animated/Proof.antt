@@ -1,118 +1,65 @@
 -- `animation::read_animated` meets its contract. Assumes nothing.
-use Prim.Native.Nat.{_+_}
+use mathlib.Core.Path.{_∙_}
 use native.Mathlib.Omega.{arith}
-use lib.Dec.{lit≤}
-use Rattle.animation.proofs.AnimationLaws.{axesIf, rotationIf, axes-are, axes-refused, rotation-is, rotation-refused, translation-refused, turn-refused, grow-refused, animated-whole}
+use Rattle.util.specs.Reader.{run}
+use Rattle.util.proofs.ReadsLaws.{known, goes-on, stops}
+use Rattle.animation.specs.Animation.{animated}
 use borrow.Author.Needs.{needs}
 use Rattle.animation.proofs.read_animated.Statement.{statement}
 use Rattle.animation.proofs.read_animated.Tie as tie
 
-is-clear-requires : tie.Need-is-clear-requires
-is-clear-requires c κs = search needs
-
-read-animated-axes-requires : tie.Need-read-animated-axes-requires
-read-animated-axes-requires c κs = search needs
-
-enum-known-n : tie.Need-enum-known-n
-enum-known-n c = search needs
-
-enum-known-trans : tie.Need-enum-known-trans
-enum-known-trans c = search needs
-
-is-clear-requires-2 : tie.Need-is-clear-requires-2
-is-clear-requires-2 c κs = search needs
-
-bit16-requires : tie.Need-bit16-requires
-bit16-requires c κs = search needs
-
 read-animated-rotation-requires : tie.Need-read-animated-rotation-requires
-read-animated-rotation-requires c κs =
-    let j = c .before .before .before in
-    let a = j .before .before .before .before .before .args in
-    let x = axes-are (axesIf 1 (a .flags) 3 (a .p)) _ _ (j .before .before .before .is-clear .ensures) (a .s .now) (a .reach) (a .p + 24) _ (j .before .before .read-animated-axes .ensures) _ _ _ (j .trans .given .1) in
-    let h = j .before .before .before .before .before .pre in
-    (h .0, h .1, let n = x .near in omega arith)
-
-enum-known-n-2 : tie.Need-enum-known-n-2
-enum-known-n-2 c = search needs
-
-enum-known-rotation : tie.Need-enum-known-rotation
-enum-known-rotation c = search needs
-
-is-clear-requires-3 : tie.Need-is-clear-requires-3
-is-clear-requires-3 c κs = search needs
+read-animated-rotation-requires c κs = let x = known (c .before .trans .given .1) (c .before .before .before .read-animated-axes .ensures) .holds .1 in omega arith
 
 read-animated-axes-requires-2 : tie.Need-read-animated-axes-requires-2
-read-animated-axes-requires-2 c κs =
-    let k = c .before .before in
-    let j = k .before .before .before .before .before .before in
-    let a = j .before .before .before .before .before .args in
-    let x = axes-are (axesIf 1 (a .flags) 3 (a .p)) _ _ (j .before .before .before .is-clear .ensures) (a .s .now) (a .reach) (a .p + 24) _ (j .before .before .read-animated-axes .ensures) _ _ _ (j .trans .given .1) in
-    let y = rotation-is (rotationIf (a .t) _) _ _ _ _ (k .before .before .before .before .is-clear2 .ensures) (k .before .before .before .bit16 .ensures) (a .t) (a .s .now) _ _ _ (k .before .before .read-animated-rotation .ensures) _ _ _ (k .rotation .given .1) in
-    let h = j .before .before .before .before .before .pre in
-    (lit≤ tt, lit≤ tt, lit≤ tt, let n = x .near in let o = y .near in omega arith)
-
-enum-known-n-3 : tie.Need-enum-known-n-3
-enum-known-n-3 c = search needs
-
-enum-known-scale : tie.Need-enum-known-scale
-enum-known-scale c = search needs
+read-animated-axes-requires-2 c κs = let j = c .before in let k = j .before .before .before .before in let x = known (k .trans .given .1) (k .before .before .read-animated-axes .ensures) .holds .1 in let y = known (j .rotation .given .1) (j .before .before .read-animated-rotation .ensures) .holds .1 in omega arith
 
 returns : tie.Need-returns
-returns c =
-    let j = c .before in
-    let a = j .before .before .before .before .before .args in
-    translation-refused (a .t) (a .flags) (a .p) (a .reach) (a .s .now) _ (axes-refused (axesIf 1 (a .flags) 3 (a .p)) _ _ (j .before .before .before .is-clear .ensures) (a .s .now) (a .reach) _ _ (j .before .before .read-animated-axes .ensures) _ (j .n .given .1))
+unfolding animated
+returns c = record { reads = stops _ _ _ _ _ (known (c .before .n .given .1) (c .before .before .before .read-animated-axes .ensures) .reads); holds = tt }
 
 returns-2 : tie.Need-returns-2
+unfolding animated
 returns-2 c =
-    let k = c .before in
-    let j = k .before .before .before .before .before .before in
-    let a = j .before .before .before .before .before .args in
-    let x = axes-are (axesIf 1 (a .flags) 3 (a .p)) _ _ (j .before .before .before .is-clear .ensures) (a .s .now) (a .reach) (a .p + 24) _ (j .before .before .read-animated-axes .ensures) _ _ _ (j .trans .given .1) in
-    turn-refused (a .t) (a .flags) (a .p) (a .reach) (a .s .now) _ _ _ (x .reads) _ (rotation-refused (rotationIf (a .t) _) _ _ _ _ (k .before .before .before .before .is-clear2 .ensures) (k .before .before .before .bit16 .ensures) (a .t) (a .s .now) _ _ _ (k .before .before .read-animated-rotation .ensures) _ (k .n2 .given .1))
+    let j = c .before in
+    let k = j .before .before .before .before in
+    record { reads = goes-on _ _ _ _ _ _ (known (k .trans .given .1) (k .before .before .read-animated-axes .ensures) .reads) ∙ stops _ _ _ _ _ (known (j .n2 .given .1) (j .before .before .read-animated-rotation .ensures) .reads); holds = tt }
 
 returns-3 : tie.Need-returns-3
+unfolding animated
 returns-3 c =
-    let l = c .before in
-    let k = l .before .before .before .before .before in
-    let j = k .before .before .before .before .before .before in
-    let a = j .before .before .before .before .before .args in
-    let x = axes-are (axesIf 1 (a .flags) 3 (a .p)) _ _ (j .before .before .before .is-clear .ensures) (a .s .now) (a .reach) (a .p + 24) _ (j .before .before .read-animated-axes .ensures) _ _ _ (j .trans .given .1) in
-    let y = rotation-is (rotationIf (a .t) _) _ _ _ _ (k .before .before .before .before .is-clear2 .ensures) (k .before .before .before .bit16 .ensures) (a .t) (a .s .now) _ _ _ (k .before .before .read-animated-rotation .ensures) _ _ _ (k .rotation .given .1) in
-    grow-refused (a .t) (a .flags) (a .p) (a .reach) (a .s .now) _ _ _ (x .reads) _ _ _ (y .reads) _ (axes-refused (axesIf 2 (a .flags) 11 _) _ _ (l .before .before .before .is-clear3 .ensures) (a .s .now) _ _ _ (l .before .before .read-animated-axes2 .ensures) _ (l .n3 .given .1))
+    let i = c .before in
+    let j = i .before .before .before .before in
+    let k = j .before .before .before .before in
+    record { reads = goes-on _ _ _ _ _ _ (known (k .trans .given .1) (k .before .before .read-animated-axes .ensures) .reads) ∙ (goes-on _ _ _ _ _ _ (known (j .rotation .given .1) (j .before .before .read-animated-rotation .ensures) .reads) ∙ stops _ _ _ _ _ (known (i .n3 .given .1) (i .before .before .read-animated-axes2 .ensures) .reads)); holds = tt }
 
 returns-4 : tie.Need-returns-4
+unfolding animated run
 returns-4 c =
-    let l = c .before in
-    let k = l .before .before .before .before .before in
-    let j = k .before .before .before .before .before .before in
-    let a = j .before .before .before .before .before .args in
-    let x = axes-are (axesIf 1 (a .flags) 3 (a .p)) _ _ (j .before .before .before .is-clear .ensures) (a .s .now) (a .reach) (a .p + 24) _ (j .before .before .read-animated-axes .ensures) _ _ _ (j .trans .given .1) in
-    let y = rotation-is (rotationIf (a .t) _) _ _ _ _ (k .before .before .before .before .is-clear2 .ensures) (k .before .before .before .bit16 .ensures) (a .t) (a .s .now) _ _ _ (k .before .before .read-animated-rotation .ensures) _ _ _ (k .rotation .given .1) in
-    let z = axes-are (axesIf 2 (a .flags) 11 _) _ _ (l .before .before .before .is-clear3 .ensures) (a .s .now) _ _ _ (l .before .before .read-animated-axes2 .ensures) _ _ _ (l .scale .given .1) in
+    let i = c .before in
+    let j = i .before .before .before .before in
+    let k = j .before .before .before .before in
+    let x = known (k .trans .given .1) (k .before .before .read-animated-axes .ensures) in
+    let y = known (j .rotation .given .1) (j .before .before .read-animated-rotation .ensures) in
+    let z = known (i .scale .given .1) (i .before .before .read-animated-axes2 .ensures) in
     record {
-      reads = animated-whole (a .t) (a .flags) (a .p) (a .reach) (a .s .now) _ _ _ (x .reads) _ _ _ (y .reads) _ _ _ (z .reads);
-      inside = record { trans = x .inside; rotation = y .inside; scale = z .inside };
+      reads = goes-on _ _ _ _ _ _ (x .reads) ∙ (goes-on _ _ _ _ _ _ (y .reads) ∙ goes-on _ _ _ _ _ _ (z .reads));
+      holds = record { trans = x .holds .0; rotation = y .holds .0; scale = z .holds .0 };
     }
 
 pub read-animated-spec : {M : Type 1} → statement M
 read-animated-spec =
     tie.close
     (tie.spec
-    is-clear-requires
-    read-animated-axes-requires
-    enum-known-n
-    enum-known-trans
-    is-clear-requires-2
-    bit16-requires
+    (λ c κs. search needs)
+    (λ c. search needs)
+    (λ c. search needs)
     read-animated-rotation-requires
-    enum-known-n-2
-    enum-known-rotation
-    is-clear-requires-3
+    (λ c. search needs)
+    (λ c. search needs)
     read-animated-axes-requires-2
-    enum-known-n-3
-    enum-known-scale
+    (λ c. search needs)
+    (λ c. search needs)
     returns
     returns-2
     returns-3

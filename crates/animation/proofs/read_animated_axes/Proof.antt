@@ -1,25 +1,45 @@
 -- `animation::read_animated_axes` meets its contract. Assumes nothing.
-use Prim.Native.Nat.{_+_}
-use mathlib.Core.Bool.{Bool}
-use mathlib.Core.Path.{sym, subst}
-use Rattle.animation.specs.AnimationCode.{AxesReads}
-use Rattle.animation.proofs.AnimationLaws.{axesIf, no-axes-read}
+use Prim.Native.Nat.{ℕ, _+_}
+use mathlib.Core.Bool.{Bool, cond}
+use mathlib.Core.Path.{refl, sym, ap, subst, _∙_}
+use native.Mathlib.Omega.{arith}
+use lib.Dec.{eqb}
+use Rattle.util.specs.Bits.{bits}
+use Rattle.util.specs.Reader.{done, run}
+use Rattle.util.proofs.ReadsLaws.{alike}
+use Rattle.animation.specs.declared.AxesRead.{AxesRead}
+use Rattle.animation.specs.declared.AxisCurves.{AxisCurves}
+use Rattle.animation.specs.Animation.{noAxes, axes, animatedAxes}
+use Rattle.animation.specs.AnimationCode.{tripleMeans, AxesReads}
 use borrow.Author.Needs.{needs}
 use Rattle.animation.proofs.read_animated_axes.Statement.{statement}
 use Rattle.animation.proofs.read_animated_axes.Tie as tie
 
-read-axes-requires : tie.Need-read-axes-requires
-read-axes-requires c κs = search needs
-
-no-axes-requires : tie.Need-no-axes-requires
-no-axes-requires c κs = search needs
-
 returns : tie.Need-returns
-returns c = let a = c .before .before .before .args in subst (λ (b : Bool). AxesReads (axesIf (a .numbers) (a .flags) (a .first) (a .p) b) (a .s .now) (a .reach) (a .p + 24) (c .read-axes .result)) (sym (c .before .if1 .taken)) (c .read-axes .ensures)
+unfolding animatedAxes
+returns c =
+    let k = c .before .before in
+    let a = k .before .before .before .args in
+    let e = sym (c .before .if1 .taken) ∙ (k .is-clear .ensures ∙ ap (λ (n : ℕ). eqb (bits (a .flags) n (n + 2)) 0) (k .before .left-out-bit .ensures .0)) in
+    let f = ap (λ (b : Bool). run (cond b (axes (tripleMeans (a .which)) (a .flags) (a .at .pos)) (done (noAxes, a .at .pos))) (a .s .now) (a .at .reach)) (sym e) in
+    alike f (c .read-axes .ensures)
 
 returns-2 : tie.Need-returns-2
-returns-2 c = let a = c .before .before .before .args in no-axes-read (a .numbers) (a .flags) (a .first) (a .p) (a .reach) (a .s .now) _ (c .before .if1 .left) _ (c .no-axes .ensures)
+unfolding animatedAxes run
+returns-2 c =
+    let k = c .before .before in
+    let a = k .before .before .before .args in
+    let e = sym (c .before .if1 .left) ∙ (k .is-clear .ensures ∙ ap (λ (n : ℕ). eqb (bits (a .flags) n (n + 2)) 0) (k .before .left-out-bit .ensures .0)) in
+    let f = ap (λ (b : Bool). run (cond b (axes (tripleMeans (a .which)) (a .flags) (a .at .pos)) (done (noAxes, a .at .pos))) (a .s .now) (a .at .reach)) (sym e) in
+    subst (λ (x : AxisCurves). AxesReads (animatedAxes (tripleMeans (a .which)) (a .flags) (a .at .pos)) (a .s .now) (a .at .reach) (a .at .pos + 24) (AxesRead.Whole x (a .at))) (sym (c .no-axes .ensures)) (record { reads = f; holds = (record { x = tt; y = tt; z = tt }, omega arith) })
 
 pub read-animated-axes-spec : {M : Type 1} → statement M
 read-animated-axes-spec =
-    tie.close (tie.spec read-axes-requires no-axes-requires returns returns-2)
+    tie.close
+    (tie.spec
+    (λ c κs. search needs)
+    (λ c κs. search needs)
+    (λ c κs. search needs)
+    (λ c κs. search needs)
+    returns
+    returns-2)

@@ -1,122 +1,65 @@
 -- `animation::read_axes` meets its contract. Assumes nothing.
-use Prim.Native.Nat.{_+_}
+use mathlib.Core.Path.{_∙_}
 use native.Mathlib.Omega.{arith}
-use Rattle.animation.proofs.AnimationLaws.{scalar-whole, scalar-refused, x-refused, y-refused, z-refused, axes-whole}
+use Rattle.util.proofs.ReadsLaws.{known, goes-on, stops}
+use Rattle.util.specs.Reader.{run}
+use Rattle.animation.specs.Animation.{axes}
 use borrow.Author.Needs.{needs}
 use Rattle.animation.proofs.read_axes.Statement.{statement}
 use Rattle.animation.proofs.read_axes.Tie as tie
 
-bit16-requires : tie.Need-bit16-requires
-bit16-requires c κs = search needs
+read-axis-requires-2 : tie.Need-read-axis-requires-2
+read-axis-requires-2 c κs = let x = known (c .before .x .given .1) (c .before .before .before .read-axis .ensures) .holds .1 in omega arith
 
-read-scalar-requires : tie.Need-read-scalar-requires
-read-scalar-requires c κs = search needs
-
-enum-known-n : tie.Need-enum-known-n
-enum-known-n c = search needs
-
-enum-known-x : tie.Need-enum-known-x
-enum-known-x c = search needs
-
-add-bit16 : tie.Need-add-bit16
-add-bit16 c = search needs
-
-bit16-requires-2 : tie.Need-bit16-requires-2
-bit16-requires-2 c κs = search needs
-
-read-scalar-requires-2 : tie.Need-read-scalar-requires-2
-read-scalar-requires-2 c κs =
-    let k = c .before .before in
-    let a = k .before .before .before .before .before .args in
-    let x = scalar-whole (a .numbers) (a .p) (a .reach) (a .p + 8) (a .s .now) _ _ (k .before .before .before .bit16 .ensures) _ (k .before .before .read-scalar .ensures) _ _ _ (k .x .given .1) in
-    let h = k .before .before .before .before .before .pre in
-    (h .0, h .1, let n = x .near in omega arith)
-
-enum-known-n-2 : tie.Need-enum-known-n-2
-enum-known-n-2 c = search needs
-
-enum-known-y : tie.Need-enum-known-y
-enum-known-y c = search needs
-
-add-bit16-2 : tie.Need-add-bit16-2
-add-bit16-2 c = search needs
-
-bit16-requires-3 : tie.Need-bit16-requires-3
-bit16-requires-3 c κs = search needs
-
-read-scalar-requires-3 : tie.Need-read-scalar-requires-3
-read-scalar-requires-3 c κs =
-    let k = c .before .before in
-    let j = k .before .before .before .before .before in
-    let a = j .before .before .before .before .before .args in
-    let x = scalar-whole (a .numbers) (a .p) (a .reach) (a .p + 8) (a .s .now) _ _ (j .before .before .before .bit16 .ensures) _ (j .before .before .read-scalar .ensures) _ _ _ (j .x .given .1) in
-    let y = scalar-whole (a .numbers) _ _ _ (a .s .now) _ _ (k .before .before .before .bit162 .ensures) _ (k .before .before .read-scalar2 .ensures) _ _ _ (k .y .given .1) in
-    let h = j .before .before .before .before .before .pre in
-    (h .0, h .1, let n = x .near in let o = y .near in omega arith)
-
-enum-known-n-3 : tie.Need-enum-known-n-3
-enum-known-n-3 c = search needs
-
-enum-known-z : tie.Need-enum-known-z
-enum-known-z c = search needs
+read-axis-requires-3 : tie.Need-read-axis-requires-3
+read-axis-requires-3 c κs = let j = c .before in let k = j .before .before .before .before in let x = known (k .x .given .1) (k .before .before .read-axis .ensures) .holds .1 in let y = known (j .y .given .1) (j .before .before .read-axis2 .ensures) .holds .1 in omega arith
 
 returns : tie.Need-returns
-returns c =
-    let j = c .before in
-    let a = j .before .before .before .before .before .args in
-    x-refused (a .numbers) (a .flags) (a .first) (a .p) (a .reach) (a .s .now) _ (scalar-refused (a .numbers) (a .p) (a .reach) _ (a .s .now) _ _ (j .before .before .before .bit16 .ensures) _ (j .before .before .read-scalar .ensures) _ (j .n .given .1))
+unfolding axes
+returns c = record { reads = stops _ _ _ _ _ (known (c .before .n .given .1) (c .before .before .before .read-axis .ensures) .reads); holds = tt }
 
 returns-2 : tie.Need-returns-2
+unfolding axes
 returns-2 c =
-    let k = c .before in
-    let j = k .before .before .before .before .before in
-    let a = j .before .before .before .before .before .args in
-    let x = scalar-whole (a .numbers) (a .p) (a .reach) (a .p + 8) (a .s .now) _ _ (j .before .before .before .bit16 .ensures) _ (j .before .before .read-scalar .ensures) _ _ _ (j .x .given .1) in
-    y-refused (a .numbers) (a .flags) (a .first) (a .p) (a .reach) (a .s .now) _ _ _ (x .reads) _ (scalar-refused (a .numbers) _ _ _ (a .s .now) _ _ (k .before .before .before .bit162 .ensures) _ (k .before .before .read-scalar2 .ensures) _ (k .n2 .given .1))
+    let j = c .before in
+    let k = j .before .before .before .before in
+    record { reads = goes-on _ _ _ _ _ _ (known (k .x .given .1) (k .before .before .read-axis .ensures) .reads) ∙ stops _ _ _ _ _ (known (j .n2 .given .1) (j .before .before .read-axis2 .ensures) .reads); holds = tt }
 
 returns-3 : tie.Need-returns-3
+unfolding axes
 returns-3 c =
-    let l = c .before in
-    let k = l .before .before .before .before .before in
-    let j = k .before .before .before .before .before in
-    let a = j .before .before .before .before .before .args in
-    let x = scalar-whole (a .numbers) (a .p) (a .reach) (a .p + 8) (a .s .now) _ _ (j .before .before .before .bit16 .ensures) _ (j .before .before .read-scalar .ensures) _ _ _ (j .x .given .1) in
-    let y = scalar-whole (a .numbers) _ _ _ (a .s .now) _ _ (k .before .before .before .bit162 .ensures) _ (k .before .before .read-scalar2 .ensures) _ _ _ (k .y .given .1) in
-    z-refused (a .numbers) (a .flags) (a .first) (a .p) (a .reach) (a .s .now) _ _ _ (x .reads) _ _ _ (y .reads) _ (scalar-refused (a .numbers) _ _ _ (a .s .now) _ _ (l .before .before .before .bit163 .ensures) _ (l .before .before .read-scalar3 .ensures) _ (l .n3 .given .1))
+    let i = c .before in
+    let j = i .before .before .before .before in
+    let k = j .before .before .before .before in
+    record { reads = goes-on _ _ _ _ _ _ (known (k .x .given .1) (k .before .before .read-axis .ensures) .reads) ∙ (goes-on _ _ _ _ _ _ (known (j .y .given .1) (j .before .before .read-axis2 .ensures) .reads) ∙ stops _ _ _ _ _ (known (i .n3 .given .1) (i .before .before .read-axis3 .ensures) .reads)); holds = tt }
 
 returns-4 : tie.Need-returns-4
+unfolding axes run
 returns-4 c =
-    let l = c .before in
-    let k = l .before .before .before .before .before in
-    let j = k .before .before .before .before .before in
-    let a = j .before .before .before .before .before .args in
-    let x = scalar-whole (a .numbers) (a .p) (a .reach) (a .p + 8) (a .s .now) _ _ (j .before .before .before .bit16 .ensures) _ (j .before .before .read-scalar .ensures) _ _ _ (j .x .given .1) in
-    let y = scalar-whole (a .numbers) _ _ _ (a .s .now) _ _ (k .before .before .before .bit162 .ensures) _ (k .before .before .read-scalar2 .ensures) _ _ _ (k .y .given .1) in
-    let z = scalar-whole (a .numbers) _ _ _ (a .s .now) _ _ (l .before .before .before .bit163 .ensures) _ (l .before .before .read-scalar3 .ensures) _ _ _ (l .z .given .1) in
+    let i = c .before in
+    let j = i .before .before .before .before in
+    let k = j .before .before .before .before in
+    let x = known (k .x .given .1) (k .before .before .read-axis .ensures) in
+    let y = known (j .y .given .1) (j .before .before .read-axis2 .ensures) in
+    let z = known (i .z .given .1) (i .before .before .read-axis3 .ensures) in
     record {
-      reads = axes-whole (a .numbers) (a .flags) (a .first) (a .p) (a .reach) (a .s .now) _ _ _ (x .reads) _ _ _ (y .reads) _ _ _ (z .reads);
-      near = let n = x .near in let o = y .near in let q = z .near in omega arith;
-      inside = record { x = x .inside; y = y .inside; z = z .inside };
+      reads = goes-on _ _ _ _ _ _ (x .reads) ∙ (goes-on _ _ _ _ _ _ (y .reads) ∙ goes-on _ _ _ _ _ _ (z .reads));
+      holds = (record { x = x .holds .0; y = y .holds .0; z = z .holds .0 }, let p = x .holds .1 in let q = y .holds .1 in let r = z .holds .1 in omega arith);
     }
 
 pub read-axes-spec : {M : Type 1} → statement M
 read-axes-spec =
     tie.close
     (tie.spec
-    bit16-requires
-    read-scalar-requires
-    enum-known-n
-    enum-known-x
-    add-bit16
-    bit16-requires-2
-    read-scalar-requires-2
-    enum-known-n-2
-    enum-known-y
-    add-bit16-2
-    bit16-requires-3
-    read-scalar-requires-3
-    enum-known-n-3
-    enum-known-z
+    (λ c κs. search needs)
+    (λ c. search needs)
+    (λ c. search needs)
+    read-axis-requires-2
+    (λ c. search needs)
+    (λ c. search needs)
+    read-axis-requires-3
+    (λ c. search needs)
+    (λ c. search needs)
     returns
     returns-2
     returns-3

@@ -1,66 +1,48 @@
 -- `animation::read_object` meets its contract. Assumes nothing.
-use Rattle.animation.proofs.AnimationLaws.{object-short, still-object, animated-object, objects-alike, still-read}
+use mathlib.Core.Path.{sym, subst, _∙_}
+use Rattle.util.specs.Reader.{run}
+use Rattle.util.proofs.ReadsLaws.{alike}
+use Rattle.animation.specs.declared.ObjectRead.{ObjectRead}
+use Rattle.animation.specs.declared.TRSCurves.{TRSCurves}
+use Rattle.animation.specs.Animation.{object}
+use Rattle.animation.specs.AnimationCode.{ObjectReads}
+use Rattle.animation.proofs.ObjectLaws.{object-short, by-flags}
 use borrow.Author.Needs.{needs}
 use Rattle.animation.proofs.read_object.Statement.{statement}
 use Rattle.animation.proofs.read_object.Tie as tie
 
-add-if1 : tie.Need-add-if1
-add-if1 c = search needs
-
 returns : tie.Need-returns
-returns c = let a = c .before .before .args in object-short (a .t) (a .p) (a .reach) (a .s .now) (c .if1 .taken)
-
-word16-requires : tie.Need-word16-requires
-word16-requires c κs = search needs
-
-add-greater : tie.Need-add-greater
-add-greater c = search needs
-
-greater-requires : tie.Need-greater-requires
-greater-requires c κs = search needs
-
-bit16-requires : tie.Need-bit16-requires
-bit16-requires c κs = search needs
-
-no-axes-requires : tie.Need-no-axes-requires
-no-axes-requires c κs = search needs
-
-no-axes-requires-2 : tie.Need-no-axes-requires-2
-no-axes-requires-2 c κs = search needs
+returns c = let a = c .before .before .args in record { reads = object-short (a .t .pivot) (a .t .basis) (a .p) (a .reach) (a .s .now) (c .if1 .taken); holds = tt }
 
 returns-2 : tie.Need-returns-2
+unfolding run
 returns-2 c =
     let b = c .before .before in
-    let l = b .before .before .before .before in
+    let l = b .before .before .before in
     let a = l .before .before .args in
-    still-read (a .t) (a .s .now) (a .reach) _ _ (still-object (a .t) (a .p) (a .reach) (a .s .now) (l .if1 .left) _ (b .before .before .before .word16 .ensures) _ (b .before .before .greater .ensures) _ (b .before .bit16 .ensures) (b .if2 .taken)) _ _ (c .before .no-axes .ensures) (c .no-axes2 .ensures)
-
-add-read-animated : tie.Need-add-read-animated
-add-read-animated c = search needs
-
-read-animated-requires : tie.Need-read-animated-requires
-read-animated-requires c κs = search needs
+    subst (λ (x : TRSCurves). ObjectReads (object (a .t .pivot) (a .t .basis) (a .p)) (a .t) (a .s .now) (a .reach) (ObjectRead.Whole x (b .before .greater .result))) (sym (c .still-curves .ensures))
+    (record {
+      reads = by-flags (a .t .pivot) (a .t .basis) (a .p) (a .reach) (a .s .now) (l .if1 .left) _ (b .before .before .word16 .ensures) _ (b .before .greater .ensures) _ (sym (c .before .if2 .taken) ∙ b .bit16 .ensures);
+      holds = record { trans = record { x = tt; y = tt; z = tt }; rotation = tt; scale = record { x = tt; y = tt; z = tt } };
+    })
 
 returns-3 : tie.Need-returns-3
 returns-3 c =
-    let b = c .before in
-    let l = b .before .before .before .before in
+    let b = c .before .before in
+    let l = b .before .before .before in
     let a = l .before .before .args in
-    objects-alike _ _ (a .t) (a .s .now) (a .reach) _ (animated-object (a .t) (a .p) (a .reach) (a .s .now) (l .if1 .left) _ (b .before .before .before .word16 .ensures) _ (b .before .before .greater .ensures) _ (b .before .bit16 .ensures) (b .if2 .left)) (c .read-animated .result) (c .read-animated .ensures)
+    alike (by-flags (a .t .pivot) (a .t .basis) (a .p) (a .reach) (a .s .now) (l .if1 .left) _ (b .before .before .word16 .ensures) _ (b .before .greater .ensures) _ (sym (c .before .if2 .left) ∙ b .bit16 .ensures)) (c .read-animated .ensures)
 
 pub read-object-spec : {M : Type 1} → statement M
 read-object-spec =
     tie.close
     (tie.spec
-    add-if1
+    (λ c. search needs)
     returns
-    word16-requires
-    add-greater
-    greater-requires
-    bit16-requires
-    no-axes-requires
-    no-axes-requires-2
+    (λ c κs. search needs)
+    (λ c κs. search needs)
+    (λ c κs. search needs)
+    (λ c κs. search needs)
     returns-2
-    add-read-animated
-    read-animated-requires
+    (λ c κs. search needs)
     returns-3)

@@ -19,12 +19,6 @@ returns-2 c = laws.ceil-small _ (laws.held (c .before .before .good .0 .1)) (c .
 sub-s : tie.Need-sub-s
 sub-s c = le-trans (laws.expo-le _ (laws.held (c .before .before .good .0 .1)) (c .before .before .pre)) (lit≤ tt)
 
-shr-lo : tie.Need-shr-lo
-shr-lo c = search needs
-
-shl-if3 : tie.Need-shl-if3
-shl-if3 c = search needs
-
 add-result : tie.Need-add-result
 add-result c = record { fits = laws.next-fits _ (laws.held (c .before .before .before .good .0 .1)) (c .before .before .before .pre) (c .before .if2 .left) }
 
@@ -42,8 +36,8 @@ ceil-spec =
     returns
     returns-2
     sub-s
-    shr-lo
-    shl-if3
+    (λ c. search needs)
+    (λ c. search needs)
     add-result
     returns-3
     returns-4)

@@ -16,11 +16,8 @@ returns c = sym (laws.floor-small _ (laws.held (c .before .good .0 .1)) (c .befo
 sub-result : tie.Need-sub-result
 sub-result c = le-trans (laws.expo-le _ (laws.held (c .before .good .0 .1)) (c .before .pre)) (lit≤ tt)
 
-shr-result : tie.Need-shr-result
-shr-result c = search needs
-
 returns-2 : tie.Need-returns-2
 returns-2 c = laws.floor-code _ (laws.held (c .before .good .0 .1)) (c .before .pre) (c .if1 .left)
 
 pub floor-spec : {M : Type 1} → statement M
-floor-spec = tie.close (tie.spec float-to-bits-b returns sub-result shr-result returns-2)
+floor-spec = tie.close (tie.spec float-to-bits-b returns sub-result (λ c. search needs) returns-2)

@@ -4,19 +4,10 @@ use borrow.Author.Needs.{needs}
 use Rattle.curve.proofs.lerp_mat.Statement.{statement}
 use Rattle.curve.proofs.lerp_mat.Tie as tie
 
-lerp-col-requires : tie.Need-lerp-col-requires
-lerp-col-requires c κs = search needs
-
-lerp-col-requires-2 : tie.Need-lerp-col-requires-2
-lerp-col-requires-2 c κs = search needs
-
-lerp-col-requires-3 : tie.Need-lerp-col-requires-3
-lerp-col-requires-3 c κs = search needs
-
 returns : tie.Need-returns
 unfolding mixMat
 returns c = cc
 
 pub lerp-mat-spec : {M : Type 1} → statement M
 lerp-mat-spec =
-    tie.close (tie.spec lerp-col-requires lerp-col-requires-2 lerp-col-requires-3 returns)
+    tie.close (tie.spec (λ c κs. search needs) (λ c κs. search needs) (λ c κs. search needs) returns)

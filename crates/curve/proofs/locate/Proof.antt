@@ -8,23 +8,11 @@ use borrow.Author.Needs.{needs}
 use Rattle.curve.proofs.locate.Statement.{statement}
 use Rattle.curve.proofs.locate.Tie as tie
 
-sub-a : tie.Need-sub-a
-sub-a c = search needs
-
-sub-b : tie.Need-sub-b
-sub-b c = search needs
-
-sub-b-2 : tie.Need-sub-b-2
-sub-b-2 c = search needs
-
 int-to-float-i : tie.Need-int-to-float-i
 int-to-float-i c = ix.exact (omega arith)
 
 int-to-float-i-2 : tie.Need-int-to-float-i-2
 int-to-float-i-2 c = ix.exact (omega arith)
-
-sub-i : tie.Need-sub-i
-sub-i c = search needs
 
 int-to-float-i-3 : tie.Need-int-to-float-i-3
 int-to-float-i-3 c = ix.exact (omega arith)
@@ -53,12 +41,12 @@ pub locate-spec : {M : Type 1} → statement M
 locate-spec =
     tie.close
     (tie.spec
-    sub-a
-    sub-b
-    sub-b-2
+    (λ c. search needs)
+    (λ c. search needs)
+    (λ c. search needs)
     int-to-float-i
     int-to-float-i-2
-    sub-i
+    (λ c. search needs)
     int-to-float-i-3
     floor-requires
     ceil-requires

@@ -17,12 +17,6 @@ returns c default =
     let there = value-there (a .s .now) (a .l) (a .number) (z .pre .0) default in
     sample-first mix default (a .l) _ (value-count (a .s .now) (a .l) (a .number)) (a .frame) (z .pre .1) (t .if1 .taken) _ (there _ (z .pre .1) _ (c .value .ensures))
 
-sub-if2 : tie.Need-sub-if2
-sub-if2 c = search needs
-
-sub-value : tie.Need-sub-value
-sub-value c = search needs
-
 value-requires-2 : tie.Need-value-requires-2
 value-requires-2 c κs =
     let z = c .before .before .before .before .before .before in
@@ -38,9 +32,6 @@ returns-2 c default =
     let there = value-there (a .s .now) (a .l) (a .number) (z .pre .0) default in
     sample-last mix default (a .l) _ (value-count (a .s .now) (a .l) (a .number)) (a .frame) (z .pre .1) (f .if1 .left) (t .if2 .taken) _ (there _ (omega arith) _ (c .value2 .ensures))
 
-locate-requires : tie.Need-locate-requires
-locate-requires c κs = search needs
-
 value-requires-3 : tie.Need-value-requires-3
 value-requires-3 c κs =
     let z = c .before .before .before .before .before .before in
@@ -53,9 +44,6 @@ value-requires-4 c κs =
     let z = p .before .before .before .before .before .before in
     let a = z .args in
     value-inside (a .s .now) (a .l) (a .number) (z .pre .0) _ (p .locate .ensures .2)
-
-lerp-requires : tie.Need-lerp-requires
-lerp-requires c κs = search needs
 
 returns-3 : tie.Need-returns-3
 returns-3 c default =
@@ -76,12 +64,12 @@ sample-list-spec =
     (tie.spec
     value-requires
     returns
-    sub-if2
-    sub-value
+    (λ c. search needs)
+    (λ c. search needs)
     value-requires-2
     returns-2
-    locate-requires
+    (λ c κs. search needs)
     value-requires-3
     value-requires-4
-    lerp-requires
+    (λ c κs. search needs)
     returns-3)

@@ -1,19 +1,14 @@
 -- `curve::sample_scalar` meets its contract. Assumes nothing.
 use mathlib.Core.Path.{refl, subst}
-use Rattle.curve.specs.Curve.{mix, sampleAt, scalarCurve, Inside}
+use Rattle.curve.specs.Curve.{mix, sampleAt}
+use Rattle.curve.specs.CurveCode.{scalarCurve, Inside}
 use Rattle.curve.proofs.SampleLaws.{value-count, sample-as, sample-empty}
 use borrow.Author.Needs.{needs}
 use Rattle.curve.proofs.sample_scalar.Statement.{statement}
 use Rattle.curve.proofs.sample_scalar.Tie as tie
 
-enum-told : tie.Need-enum-told
-enum-told c = search needs
-
-enum-known-curve : tie.Need-enum-known-curve
-enum-known-curve c = search needs
-
-enum-known-curve-2 : tie.Need-enum-known-curve-2
-enum-known-curve-2 c = search needs
+constant-requires : tie.Need-constant-requires
+constant-requires c κs = let z = c .before .before .before .before in subst (Inside (z .args .s .now)) (c .before .curve .given .1) (z .pre)
 
 returns : tie.Need-returns
 returns c =
@@ -34,9 +29,9 @@ returns-2 c = let a = c .before .before .before .args in sample-as mix (a .defau
 returns-3 : tie.Need-returns-3
 unfolding sampleAt
 returns-3 c =
-    let k = c .before in
+    let k = c .before .before in
     let a = k .before .before .before .args in
-    sample-as mix (a .default) (scalarCurve (a .s .now)) (a .curve) _ (k .curve .given .1) (a .frame) _ refl
+    sample-as mix (a .default) (scalarCurve (a .s .now)) (a .curve) _ (k .curve .given .1) (a .frame) _ (c .constant .ensures)
 
 returns-4 : tie.Need-returns-4
 returns-4 c =
@@ -48,9 +43,10 @@ pub sample-scalar-spec : {M : Type 1} → statement M
 sample-scalar-spec =
     tie.close
     (tie.spec
-    enum-told
-    enum-known-curve
-    enum-known-curve-2
+    (λ c. search needs)
+    (λ c. search needs)
+    constant-requires
+    (λ c. search needs)
     returns
     sample-list-requires
     returns-2

@@ -3,14 +3,8 @@ use borrow.Author.Needs.{needs}
 use Rattle.exports.proofs.motion_choice.Statement.{statement}
 use Rattle.exports.proofs.motion_choice.Tie as tie
 
-choice-requires : tie.Need-choice-requires
-choice-requires c κs = search needs
-
-put-choice-requires : tie.Need-put-choice-requires
-put-choice-requires c κs = search needs
-
 returns : tie.Need-returns
 returns c = rw (c .before .before .choice .ensures) at (c .put-choice .ensures)
 
 pub motion-choice-spec : {M : Type 1} → statement M
-motion-choice-spec = tie.close (tie.spec choice-requires put-choice-requires returns)
+motion-choice-spec = tie.close (tie.spec (λ c κs. search needs) (λ c κs. search needs) returns)

@@ -3,14 +3,8 @@ use borrow.Author.Needs.{needs}
 use Rattle.exports.proofs.motion_material_name.Statement.{statement}
 use Rattle.exports.proofs.motion_material_name.Tie as tie
 
-track-name-requires : tie.Need-track-name-requires
-track-name-requires c κs = search needs
-
-put-name-requires : tie.Need-put-name-requires
-put-name-requires c κs = search needs
-
 returns : tie.Need-returns
 returns c = rw (c .before .before .track-name .ensures) at (c .put-name .ensures)
 
 pub motion-material-name-spec : {M : Type 1} → statement M
-motion-material-name-spec = tie.close (tie.spec track-name-requires put-name-requires returns)
+motion-material-name-spec = tie.close (tie.spec (λ c κs. search needs) (λ c κs. search needs) returns)

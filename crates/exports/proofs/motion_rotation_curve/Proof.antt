@@ -3,15 +3,9 @@ use borrow.Author.Needs.{needs}
 use Rattle.exports.proofs.motion_rotation_curve.Statement.{statement}
 use Rattle.exports.proofs.motion_rotation_curve.Tie as tie
 
-rotation-curve-requires : tie.Need-rotation-curve-requires
-rotation-curve-requires c κs = search needs
-
-put-rotation-requires : tie.Need-put-rotation-requires
-put-rotation-requires c κs = search needs
-
 returns : tie.Need-returns
 returns c = rw (c .before .before .before .rotation-curve .ensures) at (c .put-rotation .ensures)
 
 pub motion-rotation-curve-spec : {M : Type 1} → statement M
 motion-rotation-curve-spec =
-    tie.close (tie.spec rotation-curve-requires put-rotation-requires returns)
+    tie.close (tie.spec (λ c κs. search needs) (λ c κs. search needs) returns)

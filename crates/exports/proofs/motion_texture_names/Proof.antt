@@ -3,14 +3,8 @@ use borrow.Author.Needs.{needs}
 use Rattle.exports.proofs.motion_texture_names.Statement.{statement}
 use Rattle.exports.proofs.motion_texture_names.Tie as tie
 
-texture-names-requires : tie.Need-texture-names-requires
-texture-names-requires c κs = search needs
-
-put-list-requires : tie.Need-put-list-requires
-put-list-requires c κs = search needs
-
 returns : tie.Need-returns
 returns c = rw (c .before .before .texture-names .ensures) at (c .put-list .ensures)
 
 pub motion-texture-names-spec : {M : Type 1} → statement M
-motion-texture-names-spec = tie.close (tie.spec texture-names-requires put-list-requires returns)
+motion-texture-names-spec = tie.close (tie.spec (λ c κs. search needs) (λ c κs. search needs) returns)

@@ -3,15 +3,8 @@ use borrow.Author.Needs.{needs}
 use Rattle.exports.proofs.motion_translation_curve.Statement.{statement}
 use Rattle.exports.proofs.motion_translation_curve.Tie as tie
 
-translation-curve-requires : tie.Need-translation-curve-requires
-translation-curve-requires c κs = search needs
-
-put-curve-requires : tie.Need-put-curve-requires
-put-curve-requires c κs = search needs
-
 returns : tie.Need-returns
-returns c = rw (c .before .before .before .translation-curve .ensures) at (c .put-curve .ensures)
+returns c = rw (c .before .before .before .curve .ensures) at (c .put-curve .ensures)
 
 pub motion-translation-curve-spec : {M : Type 1} → statement M
-motion-translation-curve-spec =
-    tie.close (tie.spec translation-curve-requires put-curve-requires returns)
+motion-translation-curve-spec = tie.close (tie.spec (λ c κs. search needs) (λ c κs. search needs) returns)

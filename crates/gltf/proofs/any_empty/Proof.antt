@@ -14,15 +14,6 @@ use Rattle.gltf.proofs.any_empty.Reads as reads
 use Rattle.gltf.proofs.any_empty.Lts as lts
 use Rattle.gltf.proofs.is_empty.Reads as is-empty-reads
 
-is-empty-requires : tie.Need-is-empty-requires
-is-empty-requires c κs = search needs
-
-is-empty-requires-2 : tie.Need-is-empty-requires-2
-is-empty-requires-2 c κs = search needs
-
-is-empty-requires-3 : tie.Need-is-empty-requires-3
-is-empty-requires-3 c κs = search needs
-
 -- x or y
 first-two : (j : lts.Joined1 (is-empty-reads.Asked, is-empty-reads.Learnt) reads.Pre reads.Post) (s : List ℕ) → let a = axisCurves s (j .before .before .args .a) in j .if1 .if2 ≡ (isEmpty (a .x) || isEmpty (a .y))
 first-two j s =
@@ -40,4 +31,4 @@ returns-2 c s = or-second _ _ _ (sym (first-two (c .before .before) s) ∙ c .be
 pub any-empty-spec : {M : Type 1} → statement M
 any-empty-spec =
     tie.close
-    (tie.spec is-empty-requires is-empty-requires-2 is-empty-requires-3 returns returns-2)
+    (tie.spec (λ c κs. search needs) (λ c κs. search needs) (λ c κs. search needs) returns returns-2)

@@ -10,14 +10,8 @@ domain-requires c κs = let z = c .before in (z .pre .0 .x, none-empty _ (z .pre
 domain-requires-2 : tie.Need-domain-requires-2
 domain-requires-2 c κs = let z = c .before .before in (z .pre .0 .y, none-empty _ (z .pre .1) .1)
 
-union-requires : tie.Need-union-requires
-union-requires c κs = search needs
-
 domain-requires-3 : tie.Need-domain-requires-3
 domain-requires-3 c κs = let z = c .before .before .before .before in (z .pre .0 .z, none-empty _ (z .pre .1) .2)
-
-union-requires-2 : tie.Need-union-requires-2
-union-requires-2 c κs = search needs
 
 returns : tie.Need-returns
 returns c =
@@ -32,7 +26,7 @@ axes-domain-spec =
     (tie.spec
     domain-requires
     domain-requires-2
-    union-requires
+    (λ c κs. search needs)
     domain-requires-3
-    union-requires-2
+    (λ c κs. search needs)
     returns)

@@ -2,8 +2,8 @@
 use Prim.Native.Nat.{_≤_}
 use mathlib.Core.Path.{refl, subst}
 use native.Mathlib.Omega.{arith}
-use Rattle.curve.specs.Curve.{Inside, InsideList}
-use Rattle.gltf.specs.Curve.{domain}
+use Rattle.curve.specs.CurveCode.{Inside, InsideList}
+use Rattle.gltf.specs.Curve.{noDomain, domain}
 use Rattle.gltf.proofs.ResampleLaws.{domain-as, constant-domain, list-counts, list-domain}
 use borrow.Author.Needs.{needs}
 use Rattle.gltf.proofs.domain.Statement.{statement}
@@ -12,18 +12,6 @@ use Rattle.gltf.proofs.domain.Reads as reads
 use Rattle.gltf.proofs.domain.Lts as lts
 use Rattle.gltf.proofs.CurveDomain.constant.Reads as constant-reads
 use Rattle.gltf.proofs.CurveDomain.samples.Reads as samples-reads
-
-enum-told : tie.Need-enum-told
-enum-told c = search needs
-
-enum-told-2 : tie.Need-enum-told-2
-enum-told-2 c = search needs
-
-constant-requires : tie.Need-constant-requires
-constant-requires c κs = search needs
-
-enum-known-c : tie.Need-enum-known-c
-enum-known-c c = search needs
 
 -- a list that stands in the section, and is not empty
 listed : (c : lts.After-c (constant-reads.Asked, constant-reads.Learnt, samples-reads.Asked, samples-reads.Learnt) reads.Pre reads.Post)
@@ -40,7 +28,7 @@ samples-requires c κs = let h = listed (c .before .before) in (omega arith, h .
 
 returns : tie.Need-returns
 unfolding domain
-returns c = domain-as _ _ _ (c .enum-told .given .1) _ (refl, tt)
+returns c = domain-as _ _ _ (c .enum-told .given .1) noDomain (refl, tt)
 
 returns-2 : tie.Need-returns-2
 returns-2 c = domain-as _ _ _ (c .before .enum-told2 .given .1) _ (constant-domain _ _ (c .constant .ensures))
@@ -55,10 +43,10 @@ pub domain-spec : {M : Type 1} → statement M
 domain-spec =
     tie.close
     (tie.spec
-    enum-told
-    enum-told-2
-    constant-requires
-    enum-known-c
+    (λ c. search needs)
+    (λ c. search needs)
+    (λ c κs. search needs)
+    (λ c. search needs)
     cast-samples
     samples-requires
     returns

@@ -1,9 +1,11 @@
 -- `gltf::resample` meets its contract. Assumes nothing.
 use mathlib.Core.Bool.{false}
-use mathlib.Core.Path.{_≡_, sym, _∙_}
+use mathlib.Core.Path.{_≡_, sym, ap, _∙_}
 use native.Mathlib.Omega.{arith}
 use Rattle.animation.specs.AnimationCode.{axisCurves}
+use Rattle.gltf.specs.declared.Resampling.the-variants.{Frames, Nothing}
 use Rattle.gltf.specs.Curve.{anyEmpty}
+use Rattle.gltf.specs.CurveCode.{domainMeans}
 use Rattle.gltf.proofs.ResampleLaws.{empty-list, too-small, resampled, no-frames-answered, frames-answered}
 use borrow.Author.Needs.{needs}
 use Rattle.gltf.proofs.resample.Statement.{statement}
@@ -15,9 +17,6 @@ use Rattle.gltf.proofs.any_empty.Reads as any-empty-reads
 use Rattle.gltf.proofs.axes_domain.Reads as axes-domain-reads
 use Rattle.gltf.proofs.resample_vec3.Reads as resample-vec3-reads
 
-any-empty-requires : tie.Need-any-empty-requires
-any-empty-requires c κs = search needs
-
 returns : tie.Need-returns
 returns c = let a = c .before .before .before .before .args in empty-list _ _ (a .out .now) (a .place) (sym (c .before .any-empty .ensures (a .s .now)) ∙ c .if1 .taken)
 
@@ -28,21 +27,12 @@ none-empty c = sym (c .before .any-empty .ensures (c .before .before .before .be
 axes-domain-requires : tie.Need-axes-domain-requires
 axes-domain-requires c κs = (c .before .before .before .before .pre, none-empty c)
 
-num-frames-requires : tie.Need-num-frames-requires
-num-frames-requires c κs = search needs
-
 returns-2 : tie.Need-returns-2
 returns-2 c =
     let n = c .before in
     let e = n .before .before in
     let a = e .before .before .before .before .args in
     too-small _ _ (a .out .now) (a .place) (none-empty e) _ (n .before .axes-domain .ensures .0) (omega arith)
-
-sub-if3 : tie.Need-sub-if3
-sub-if3 c = search needs
-
-mul-if3 : tie.Need-mul-if3
-mul-if3 c = search needs
 
 returns-3 : tie.Need-returns-3
 returns-3 c =
@@ -51,40 +41,13 @@ returns-3 c =
     let a = e .before .before .before .before .args in
     too-small _ _ (a .out .now) (a .place) (none-empty e) _ (n .before .axes-domain .ensures .0) (omega arith)
 
-mul-resample-vec3 : tie.Need-mul-resample-vec3
-mul-resample-vec3 c = search needs
-
-sub-resample-vec3 : tie.Need-sub-resample-vec3
-sub-resample-vec3 c = search needs
-
-part-resample-vec3-start : tie.Need-part-resample-vec3-start
-part-resample-vec3-start c = search needs
-
-part-resample-vec3-end : tie.Need-part-resample-vec3-end
-part-resample-vec3-end c = search needs
-
-resample-vec3-requires : tie.Need-resample-vec3-requires
-resample-vec3-requires c κs = search needs
-
-enum-told : tie.Need-enum-told
-enum-told c = search needs
-
-enum-known-d : tie.Need-enum-known-d
-enum-known-d c = search needs
-
-same-length : tie.Need-same-length
-same-length c = search needs
-
 returns-4 : tie.Need-returns-4
 returns-4 c =
     let v = c .before .before .before .before in
     let n = v .before .before .before .before in
     let e = n .before .before in
     let a = e .before .before .before .before .args in
-    resampled _ _ (a .out .now) (a .place) (none-empty e) _ (n .before .axes-domain .ensures .0) (omega arith) (v .resample-vec3 .last .1 .1 .1 .1 .0) (v .resample-vec3 .ensures) _ (no-frames-answered _ (c .enum-told .given .1))
-
-same-length-2 : tie.Need-same-length-2
-same-length-2 c = search needs
+    resampled _ _ (a .out .now) (a .place) (none-empty e) _ (n .before .axes-domain .ensures .0) (omega arith) (v .resample-vec3 .last .1 .1 .1 .1 .0) (v .resample-vec3 .ensures) Nothing (no-frames-answered _ (ap domainMeans (c .enum-told .given .1)))
 
 returns-5 : tie.Need-returns-5
 returns-5 c =
@@ -92,28 +55,28 @@ returns-5 c =
     let n = v .before .before .before .before in
     let e = n .before .before in
     let a = e .before .before .before .before .args in
-    resampled _ _ (a .out .now) (a .place) (none-empty e) _ (n .before .axes-domain .ensures .0) (omega arith) (v .resample-vec3 .last .1 .1 .1 .1 .0) (v .resample-vec3 .ensures) _ (frames-answered _ _ _ _ _ (c .before .d .given .1) (n .num-frames .ensures .0))
+    resampled _ _ (a .out .now) (a .place) (none-empty e) _ (n .before .axes-domain .ensures .0) (omega arith) (v .resample-vec3 .last .1 .1 .1 .1 .0) (v .resample-vec3 .ensures) (Frames _ _ _) (frames-answered _ _ _ _ _ (ap domainMeans (c .before .d .given .1)) (n .num-frames .ensures .0))
 
 pub resample-spec : {M : Type 1} → statement M
 resample-spec =
     tie.close
     (tie.spec
-    any-empty-requires
+    (λ c κs. search needs)
     returns
     axes-domain-requires
-    num-frames-requires
+    (λ c κs. search needs)
     returns-2
-    sub-if3
-    mul-if3
+    (λ c. search needs)
+    (λ c. search needs)
     returns-3
-    mul-resample-vec3
-    sub-resample-vec3
-    part-resample-vec3-start
-    part-resample-vec3-end
-    resample-vec3-requires
-    enum-told
-    enum-known-d
-    same-length
+    (λ c. search needs)
+    (λ c. search needs)
+    (λ c. search needs)
+    (λ c. search needs)
+    (λ c κs. search needs)
+    (λ c. search needs)
+    (λ c. search needs)
+    (λ c. search needs)
     returns-4
-    same-length-2
+    (λ c. search needs)
     returns-5)

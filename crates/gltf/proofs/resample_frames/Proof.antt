@@ -29,9 +29,6 @@ loop-holds c = (refl, omega arith, refl)
 cast-sample-axes : tie.Need-cast-sample-axes Inv-loop μ-loop
 cast-sample-axes c = omega arith
 
-sample-axes-requires : tie.Need-sample-axes-requires Inv-loop μ-loop
-sample-axes-requires c κs = search needs
-
 -- one frame more is left than after it
 one-left : (c : lts.After-sample-axes (sample-axes-reads.Asked, sample-axes-reads.Learnt) reads.Pre reads.Post Inv-loop μ-loop)
     → let k = c .before .before in let a = k .before .before .before .args in length (onward (k .loop .frame) (a .end) (a .rate)) ≡ suc (length (onward (k .loop .frame + a .rate) (a .end) (a .rate)))
@@ -95,7 +92,7 @@ resample-frames-spec =
     μ-loop
     loop-holds
     cast-sample-axes
-    sample-axes-requires
+    (λ c κs. search needs)
     mul-out
     slice-write-out
     add-out

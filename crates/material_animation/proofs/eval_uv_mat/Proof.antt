@@ -5,15 +5,6 @@ use borrow.Author.Needs.{needs}
 use Rattle.material_animation.proofs.eval_uv_mat.Statement.{statement}
 use Rattle.material_animation.proofs.eval_uv_mat.Tie as tie
 
-sample-channel-requires : tie.Need-sample-channel-requires
-sample-channel-requires c κs = search needs
-
-sample-channel-requires-2 : tie.Need-sample-channel-requires-2
-sample-channel-requires-2 c κs = search needs
-
-from-translation-requires : tie.Need-from-translation-requires
-from-translation-requires c κs = search needs
-
 returns : tie.Need-returns
 unfolding ofBits
 returns c =
@@ -25,4 +16,4 @@ returns c =
 pub eval-uv-mat-spec : {M : Type 1} → statement M
 eval-uv-mat-spec =
     tie.close
-    (tie.spec sample-channel-requires sample-channel-requires-2 from-translation-requires returns)
+    (tie.spec (λ c κs. search needs) (λ c κs. search needs) (λ c κs. search needs) returns)

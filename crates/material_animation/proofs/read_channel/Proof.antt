@@ -9,46 +9,13 @@ use Rattle.material_animation.proofs.read_channel.Statement.{statement}
 use Rattle.material_animation.proofs.read_channel.Tie as tie
 
 returns : tie.Need-returns
-returns c = let a = c .before .before .args in (channel-low (a .s .now) (a .track) (a .n) (c .before .before .pre .1) (a .reach) (c .if1 .taken), tt)
-
-mul-at : tie.Need-mul-at
-mul-at c = search needs
-
-add-at : tie.Need-add-at
-add-at c = search needs
-
-add-byte : tie.Need-add-byte
-add-byte c = search needs
-
-byte-requires : tie.Need-byte-requires
-byte-requires c κs = search needs
+returns c = let a = c .before .before .args in record { reads = channel-low (a .s .now) (a .track) (a .n) (c .before .before .pre .1) (a .reach) (c .if1 .taken); holds = tt }
 
 returns-2 : tie.Need-returns-2
 returns-2 c =
     let z = c .before .before .before .before in
     let a = z .args in
-    (channel-other (a .s .now) (a .track) (a .n) (z .pre .1) (a .reach) (λ e. c .if2 .taken (c .before .byte .ensures ∙ e)), tt)
-
-word16-requires : tie.Need-word16-requires
-word16-requires c κs = search needs
-
-add-word32 : tie.Need-add-word32
-add-word32 c = search needs
-
-word32-requires : tie.Need-word32-requires
-word32-requires c κs = search needs
-
-cast-place : tie.Need-cast-place
-cast-place c = search needs
-
-cast-length : tie.Need-cast-length
-cast-length c = search needs
-
-mul-end : tie.Need-mul-end
-mul-end c = search needs
-
-add-end : tie.Need-add-end
-add-end c = search needs
+    record { reads = channel-other (a .s .now) (a .track) (a .n) (z .pre .1) (a .reach) (λ e. c .if2 .taken (c .before .byte .ensures ∙ e)); holds = tt }
 
 returns-3 : tie.Need-returns-3
 returns-3 c =
@@ -57,10 +24,7 @@ returns-3 c =
     let b = w2 .before .before in
     let z = b .before .before .before in
     let a = z .args in
-    (channel-short (a .s .now) (a .track) (a .n) (z .pre .1) (a .reach) (b .before .if1 .left) (sym (b .byte .ensures) ∙ w2 .before .if2 .left) _ _ (sym (w2 .word16 .ensures)) (sym (w4 .word32 .ensures)) (c .if3 .taken), tt)
-
-greater-requires : tie.Need-greater-requires
-greater-requires c κs = search needs
+    record { reads = channel-short (a .s .now) (a .track) (a .n) (z .pre .1) (a .reach) (b .before .if1 .left) (sym (b .byte .ensures) ∙ w2 .before .if2 .left) _ _ (sym (w2 .word16 .ensures)) (sym (w4 .word32 .ensures)) (c .if3 .taken); holds = tt }
 
 returns-4 : tie.Need-returns-4
 returns-4 c =
@@ -68,28 +32,29 @@ returns-4 c =
     let w2 = w4 .before in
     let b = w2 .before .before in
     let z = b .before .before .before in
-    let a = z .args in (
-      channel-whole (a .s .now) (a .track) (a .n) (z .pre .1) (a .reach) (b .before .if1 .left) (sym (b .byte .ensures) ∙ w2 .before .if2 .left) _ _ (sym (w2 .word16 .ensures)) (sym (w4 .word32 .ensures)) (c .before .if3 .left) ∙ to _ _ _ (sym (c .greater .ensures)),
-      record { ends = c .before .if3 .left; few = omega arith; frames = omega arith; wide = lit≤ tt; small = lit≤ tt },
-    )
+    let a = z .args in
+    record {
+      reads = channel-whole (a .s .now) (a .track) (a .n) (z .pre .1) (a .reach) (b .before .if1 .left) (sym (b .byte .ensures) ∙ w2 .before .if2 .left) _ _ (sym (w2 .word16 .ensures)) (sym (w4 .word32 .ensures)) (c .before .if3 .left) ∙ to _ _ _ (sym (c .greater .ensures));
+      holds = record { ends = c .before .if3 .left; few = omega arith; frames = omega arith; wide = lit≤ tt; small = lit≤ tt };
+    }
 
 pub read-channel-spec : {M : Type 1} → statement M
 read-channel-spec =
     tie.close
     (tie.spec
     returns
-    mul-at
-    add-at
-    add-byte
-    byte-requires
+    (λ c. search needs)
+    (λ c. search needs)
+    (λ c. search needs)
+    (λ c κs. search needs)
     returns-2
-    word16-requires
-    add-word32
-    word32-requires
-    cast-place
-    cast-length
-    mul-end
-    add-end
+    (λ c κs. search needs)
+    (λ c. search needs)
+    (λ c κs. search needs)
+    (λ c. search needs)
+    (λ c. search needs)
+    (λ c. search needs)
+    (λ c. search needs)
     returns-3
-    greater-requires
+    (λ c κs. search needs)
     returns-4)

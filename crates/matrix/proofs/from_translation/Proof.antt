@@ -4,22 +4,10 @@ use borrow.Author.Needs.{needs}
 use Rattle.matrix.proofs.from_translation.Statement.{statement}
 use Rattle.matrix.proofs.from_translation.Tie as tie
 
-vec4-requires : tie.Need-vec4-requires
-vec4-requires c κs = search needs
-
-vec4-requires-2 : tie.Need-vec4-requires-2
-vec4-requires-2 c κs = search needs
-
-vec4-requires-3 : tie.Need-vec4-requires-3
-vec4-requires-3 c κs = search needs
-
-vec4-requires-4 : tie.Need-vec4-requires-4
-vec4-requires-4 c κs = search needs
-
 returns : tie.Need-returns
 unfolding ofBits
 returns c = cc
 
 pub from-translation-spec : {M : Type 1} → statement M
 from-translation-spec =
-    tie.close (tie.spec vec4-requires vec4-requires-2 vec4-requires-3 vec4-requires-4 returns)
+    tie.close (tie.spec (λ c κs. search needs) (λ c κs. search needs) (λ c κs. search needs) (λ c κs. search needs) returns)

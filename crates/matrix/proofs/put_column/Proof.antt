@@ -12,38 +12,14 @@ use Rattle.matrix.proofs.put_column.Tie as tie
 float-to-bits-put64 : tie.Need-float-to-bits-put64
 float-to-bits-put64 c = finite-no-nan _ (c .before .before .before .pre .1 .x)
 
-put64-requires : tie.Need-put64-requires
-put64-requires c κs = search needs
-
-add-put64 : tie.Need-add-put64
-add-put64 c = search needs
-
 float-to-bits-put64-2 : tie.Need-float-to-bits-put64-2
 float-to-bits-put64-2 c = finite-no-nan _ (c .before .before .before .before .before .before .before .before .pre .1 .y)
-
-put64-requires-2 : tie.Need-put64-requires-2
-put64-requires-2 c κs = search needs
-
-add-put64-2 : tie.Need-add-put64-2
-add-put64-2 c = search needs
 
 float-to-bits-put64-3 : tie.Need-float-to-bits-put64-3
 float-to-bits-put64-3 c = finite-no-nan _ (c .before .before .before .before .before .before .before .before .before .before .before .before .before .pre .1 .z)
 
-put64-requires-3 : tie.Need-put64-requires-3
-put64-requires-3 c κs = search needs
-
-add-put64-3 : tie.Need-add-put64-3
-add-put64-3 c = search needs
-
 float-to-bits-put64-4 : tie.Need-float-to-bits-put64-4
 float-to-bits-put64-4 c = finite-no-nan _ (c .before .before .before .before .before .before .before .before .before .before .before .before .before .before .before .before .before .before .pre .1 .w)
-
-put64-requires-4 : tie.Need-put64-requires-4
-put64-requires-4 c κs = search needs
-
-same-length : tie.Need-same-length
-same-length c = search needs
 
 returns : tie.Need-returns
 unfolding littleBytes
@@ -62,15 +38,15 @@ put-column-spec =
     tie.close
     (tie.spec
     float-to-bits-put64
-    put64-requires
-    add-put64
+    (λ c κs. search needs)
+    (λ c. search needs)
     float-to-bits-put64-2
-    put64-requires-2
-    add-put64-2
+    (λ c κs. search needs)
+    (λ c. search needs)
     float-to-bits-put64-3
-    put64-requires-3
-    add-put64-3
+    (λ c κs. search needs)
+    (λ c. search needs)
     float-to-bits-put64-4
-    put64-requires-4
-    same-length
+    (λ c κs. search needs)
+    (λ c. search needs)
     returns)

@@ -7,21 +7,6 @@ use borrow.Author.Needs.{needs}
 use Rattle.matrix.proofs.put_matrix.Statement.{statement}
 use Rattle.matrix.proofs.put_matrix.Tie as tie
 
-put-column-requires : tie.Need-put-column-requires
-put-column-requires c κs = search needs
-
-put-column-requires-2 : tie.Need-put-column-requires-2
-put-column-requires-2 c κs = search needs
-
-put-column-requires-3 : tie.Need-put-column-requires-3
-put-column-requires-3 c κs = search needs
-
-put-column-requires-4 : tie.Need-put-column-requires-4
-put-column-requires-4 c κs = search needs
-
-same-length : tie.Need-same-length
-same-length c = search needs
-
 returns : tie.Need-returns
 unfolding littleBytes bytesOf
 returns c =
@@ -37,9 +22,9 @@ pub put-matrix-spec : {M : Type 1} → statement M
 put-matrix-spec =
     tie.close
     (tie.spec
-    put-column-requires
-    put-column-requires-2
-    put-column-requires-3
-    put-column-requires-4
-    same-length
+    (λ c κs. search needs)
+    (λ c κs. search needs)
+    (λ c κs. search needs)
+    (λ c κs. search needs)
+    (λ c. search needs)
     returns)

@@ -1,21 +1,11 @@
 -- `motion::check` meets its contract. Assumes nothing.
 use mathlib.Core.Path.{sym, ap, _∙_}
 use Rattle.nitro.specs.ContainerCode.{kindMeans, stampMeans}
-use Rattle.nitro.specs.EntryCode.{checkOf}
 use Rattle.nitro.proofs.ContainerLaws.{stamp-of}
 use Rattle.motion.proofs.CallsLaws.{check-unstamped, check-stamped}
 use borrow.Author.Needs.{needs}
 use Rattle.motion.proofs.check.Statement.{statement}
 use Rattle.motion.proofs.check.Tie as tie
-
-read-stamp-requires : tie.Need-read-stamp-requires
-read-stamp-requires c κs = search needs
-
-enum-known-n : tie.Need-enum-known-n
-enum-known-n c = search needs
-
-enum-known-kind : tie.Need-enum-known-kind
-enum-known-kind c = search needs
 
 check-entry-requires : tie.Need-check-entry-requires
 check-entry-requires c κs =
@@ -27,21 +17,21 @@ returns : tie.Need-returns
 returns c =
     let b = c .before in
     let a = b .before .before .before .before .args in
-    ap checkOf (sym (check-unstamped (a .s .now) (a .entry) _ (b .before .before .read-stamp .ensures ∙ ap stampMeans (b .n .given .1))))
+    sym (check-unstamped (a .s .now) (a .entry) _ (b .before .before .read-stamp .ensures ∙ ap stampMeans (b .n .given .1)))
 
 returns-2 : tie.Need-returns-2
 returns-2 c =
     let b = c .before .before in
     let a = b .before .before .before .before .args in
-    c .check-entry .ensures ∙ ap checkOf (sym (check-stamped (a .s .now) (a .entry) (kindMeans (b .kind .given .0 .0)) (b .before .before .read-stamp .ensures ∙ ap stampMeans (b .kind .given .1))))
+    c .check-entry .ensures ∙ sym (check-stamped (a .s .now) (a .entry) (kindMeans (b .kind .given .0 .0)) (b .before .before .read-stamp .ensures ∙ ap stampMeans (b .kind .given .1)))
 
 pub check-spec : {M : Type 1} → statement M
 check-spec =
     tie.close
     (tie.spec
-    read-stamp-requires
-    enum-known-n
-    enum-known-kind
+    (λ c κs. search needs)
+    (λ c. search needs)
+    (λ c. search needs)
     check-entry-requires
     returns
     returns-2)

@@ -1,24 +1,16 @@
 -- `motion::find` meets its contract. Assumes nothing.
 use mathlib.Core.Path.{ap, subst, _∙_}
 use native.Mathlib.Omega.{arith}
-use Rattle.info_block.specs.InfoBlock.{blockAt}
+use Rattle.info_block.specs.InfoBlockCode.{blockAt}
 use Rattle.info_block.specs.Name.{named}
-use Rattle.nitro.specs.ContainerCode.{kindMeans, stampMeans, HeaderIs}
-use Rattle.nitro.specs.NameCode.{FoundIn}
+use Rattle.nitro.specs.ContainerCode.{kindMeans, stampMeans}
+use Rattle.info_block.specs.NameCode.{FoundIn}
 use Rattle.nitro.proofs.ContainerLaws.{stamp-of}
 use Rattle.motion.proofs.CallsLaws.{find-unstamped, find-headless, find-named, found-no, found-yes, found-none}
+use Rattle.util.proofs.ReadsLaws.{known}
 use borrow.Author.Needs.{needs}
 use Rattle.motion.proofs.find.Statement.{statement}
 use Rattle.motion.proofs.find.Tie as tie
-
-read-stamp-requires : tie.Need-read-stamp-requires
-read-stamp-requires c κs = search needs
-
-enum-known-n : tie.Need-enum-known-n
-enum-known-n c = search needs
-
-enum-known-kind : tie.Need-enum-known-kind
-enum-known-kind c = search needs
 
 read-section-requires : tie.Need-read-section-requires
 read-section-requires c κs =
@@ -27,27 +19,13 @@ read-section-requires c κs =
     let e = j .before .before .read-stamp .ensures ∙ ap stampMeans (j .kind .given .1) in
     stamp-of (a .s .now) 4 (kindMeans (j .kind .given .0 .0)) e .0
 
-enum-known-n-2 : tie.Need-enum-known-n-2
-enum-known-n-2 c = search needs
-
-enum-known-b : tie.Need-enum-known-b
-enum-known-b c = search needs
-
 find-name-requires : tie.Need-find-name-requires
 find-name-requires c κs =
     let k = c .before in
     let j = k .before .before .before .before in
     let a = j .before .before .before .before .args in
-    let w = subst (HeaderIs (a .s .now)) (k .b .given .1) (k .before .before .read-section .ensures) in
-    let x = w .block .names-end in
-    let y = w .block .inside in
+    let w = known (k .b .given .1) (k .before .before .read-section .ensures) .holds in
     omega arith
-
-enum-known-i : tie.Need-enum-known-i
-enum-known-i c = search needs
-
-enum-told : tie.Need-enum-told
-enum-told c = search needs
 
 returns : tie.Need-returns
 returns c =
@@ -61,7 +39,7 @@ returns-2 c =
     let j = k .before .before .before .before in
     let a = j .before .before .before .before .args in
     let e = j .before .before .read-stamp .ensures ∙ ap stampMeans (j .kind .given .1) in
-    found-no (a .name .now) (a .s .now) _ (find-headless (a .s .now) (a .name .now) (kindMeans (j .kind .given .0 .0)) e _ (subst (HeaderIs (a .s .now)) (k .n2 .given .1) (k .before .before .read-section .ensures)))
+    found-no (a .name .now) (a .s .now) _ (find-headless (a .s .now) (a .name .now) (kindMeans (j .kind .given .0 .0)) e _ (known (k .n2 .given .1) (k .before .before .read-section .ensures) .reads))
 
 returns-3 : tie.Need-returns-3
 returns-3 c =
@@ -70,7 +48,7 @@ returns-3 c =
     let j = k .before .before .before .before in
     let a = j .before .before .before .before .args in
     let e = j .before .before .read-stamp .ensures ∙ ap stampMeans (j .kind .given .1) in
-    let w = subst (HeaderIs (a .s .now)) (k .b .given .1) (k .before .before .read-section .ensures) in
+    let w = known (k .b .given .1) (k .before .before .read-section .ensures) in
     let f = find-named (a .s .now) (a .name .now) (kindMeans (j .kind .given .0 .0)) e _ _ (w .reads) in
     found-yes (a .name .now) (a .s .now) _ _ f _ (subst (FoundIn (named (a .name .now) 0 (blockAt (a .s .now) 4 (k .b .given .0 .0) .names))) (l .i .given .1) (l .before .before .find-name .ensures))
 
@@ -81,7 +59,7 @@ returns-4 c =
     let j = k .before .before .before .before in
     let a = j .before .before .before .before .args in
     let e = j .before .before .read-stamp .ensures ∙ ap stampMeans (j .kind .given .1) in
-    let w = subst (HeaderIs (a .s .now)) (k .b .given .1) (k .before .before .read-section .ensures) in
+    let w = known (k .b .given .1) (k .before .before .read-section .ensures) in
     let f = find-named (a .s .now) (a .name .now) (kindMeans (j .kind .given .0 .0)) e _ _ (w .reads) in
     found-none (a .name .now) (a .s .now) _ _ f (subst (FoundIn (named (a .name .now) 0 (blockAt (a .s .now) 4 (k .b .given .0 .0) .names))) (l .enum-told .given .1) (l .before .before .find-name .ensures))
 
@@ -89,15 +67,15 @@ pub find-spec : {M : Type 1} → statement M
 find-spec =
     tie.close
     (tie.spec
-    read-stamp-requires
-    enum-known-n
-    enum-known-kind
+    (λ c κs. search needs)
+    (λ c. search needs)
+    (λ c. search needs)
     read-section-requires
-    enum-known-n-2
-    enum-known-b
+    (λ c. search needs)
+    (λ c. search needs)
     find-name-requires
-    enum-known-i
-    enum-told
+    (λ c. search needs)
+    (λ c. search needs)
     returns
     returns-2
     returns-3

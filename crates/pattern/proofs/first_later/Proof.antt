@@ -5,7 +5,8 @@ use native.Mathlib.Nat.{zero-add}
 use native.Mathlib.Omega.{arith}
 use borrow.Author.Needs.{needs}
 use lib.ListN.{drop}
-use Rattle.pattern.specs.Pattern.{firstLater, asKey}
+use Rattle.pattern.specs.Pattern.{firstLater}
+use Rattle.pattern.specs.PatternCode.{keyMeans}
 use Rattle.pattern.proofs.PatternLaws.{keys, is-later, not-later, none-later}
 use Rattle.pattern.proofs.first_later.Statement.{statement}
 use Rattle.pattern.proofs.first_later.Tie as tie
@@ -19,28 +20,19 @@ abbrev μ-loop : tie.MeasureT-loop
 loop-holds : tie.Need-loop-holds Inv-loop μ-loop
 loop-holds c = (search needs, zero-add _)
 
-key-at-requires : tie.Need-key-at-requires Inv-loop μ-loop
-key-at-requires c κs = omega arith
-
 returns : tie.Need-returns Inv-loop μ-loop
 returns c =
     let k = c .before .before in
     let l = k .before .before .loop in
     let a = k .before .before .before .before .args in
-    (is-later (a .s .now) (a .place) (a .count) (l .i) (asKey (k .key-at .result)) (omega arith) (k .key-at .ensures) (a .frame) _ (l .inv .1) (c .if1 .taken), l .inv .0)
-
-add-i : tie.Need-add-i Inv-loop μ-loop
-add-i c = omega arith
-
-loop-less : tie.Need-loop-less Inv-loop μ-loop
-loop-less c = omega arith
+    (is-later (a .s .now) (a .place) (a .count) (l .i) (keyMeans (k .key-at .result)) (omega arith) (k .key-at .ensures) (a .frame) _ (l .inv .1) (c .if1 .taken), l .inv .0)
 
 loop-again : tie.Need-loop-again Inv-loop μ-loop
 loop-again c =
     let k = c .before .before in
     let l = k .before .before .loop in
     let a = k .before .before .before .before .args in
-    (omega arith, not-later (a .s .now) (a .place) (a .count) (l .i) (asKey (k .key-at .result)) (omega arith) (k .key-at .ensures) (a .frame) _ (l .inv .1) (c .if1 .left))
+    (omega arith, not-later (a .s .now) (a .place) (a .count) (l .i) (keyMeans (k .key-at .result)) (omega arith) (k .key-at .ensures) (a .frame) _ (l .inv .1) (c .if1 .left))
 
 returns-2 : tie.Need-returns-2 Inv-loop μ-loop
 returns-2 c =
@@ -55,9 +47,9 @@ first-later-spec =
     Inv-loop
     μ-loop
     loop-holds
-    key-at-requires
+    (λ c κs. search needs)
     returns
-    add-i
-    loop-less
+    (λ c. search needs)
+    (λ c. search needs)
     loop-again
     returns-2)

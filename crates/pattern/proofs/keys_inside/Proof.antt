@@ -4,7 +4,8 @@ use mathlib.Core.Path.{_≡_, refl, sym, ap, _∙_}
 use native.Mathlib.Omega.{arith}
 use borrow.Author.Needs.{needs}
 use lib.ListN.{drop}
-use Rattle.pattern.specs.Pattern.{inside, asKey}
+use Rattle.pattern.specs.Pattern.{inside}
+use Rattle.pattern.specs.PatternCode.{keyMeans}
 use Rattle.pattern.proofs.PatternLaws.{keys, keys-end, texture-outside, palette-outside, both-inside}
 use Rattle.pattern.proofs.keys_inside.Statement.{statement}
 use Rattle.pattern.proofs.keys_inside.Tie as tie
@@ -18,41 +19,26 @@ abbrev μ-loop : tie.MeasureT-loop
 loop-holds : tie.Need-loop-holds Inv-loop μ-loop
 loop-holds c = (search needs, refl)
 
-key-at-requires : tie.Need-key-at-requires Inv-loop μ-loop
-key-at-requires c κs = omega arith
-
-cast-if1 : tie.Need-cast-if1 Inv-loop μ-loop
-cast-if1 c = search needs
-
 returns : tie.Need-returns Inv-loop μ-loop
 returns c =
     let l = c .before .before .before .before .loop in
     let a = c .before .before .before .before .before .before .args in
     let k = c .before .before .key-at in
-    texture-outside (a .s .now) (a .place) (a .count) (l .i) (asKey (k .result)) (omega arith) (k .ensures) (a .textures) (a .palettes) _ (l .inv .1) (c .if1 .taken)
-
-cast-if2 : tie.Need-cast-if2 Inv-loop μ-loop
-cast-if2 c = search needs
+    texture-outside (a .s .now) (a .place) (a .count) (l .i) (keyMeans (k .result)) (omega arith) (k .ensures) (a .textures) (a .palettes) _ (l .inv .1) (c .if1 .taken)
 
 returns-2 : tie.Need-returns-2 Inv-loop μ-loop
 returns-2 c =
     let l = c .before .before .before .before .before .before .loop in
     let a = c .before .before .before .before .before .before .before .before .args in
     let k = c .before .before .before .before .key-at in
-    palette-outside (a .s .now) (a .place) (a .count) (l .i) (asKey (k .result)) (omega arith) (k .ensures) (a .textures) (a .palettes) _ (l .inv .1) (c .if2 .taken)
-
-add-i : tie.Need-add-i Inv-loop μ-loop
-add-i c = omega arith
-
-loop-less : tie.Need-loop-less Inv-loop μ-loop
-loop-less c = omega arith
+    palette-outside (a .s .now) (a .place) (a .count) (l .i) (keyMeans (k .result)) (omega arith) (k .ensures) (a .textures) (a .palettes) _ (l .inv .1) (c .if2 .taken)
 
 loop-again : tie.Need-loop-again Inv-loop μ-loop
 loop-again c =
     let l = c .before .before .before .before .before .before .loop in
     let a = c .before .before .before .before .before .before .before .before .args in
     let k = c .before .before .before .before .key-at in
-    (omega arith, both-inside (a .s .now) (a .place) (a .count) (l .i) (asKey (k .result)) (omega arith) (k .ensures) (a .textures) (a .palettes) _ (l .inv .1) (c .before .before .if1 .left) (c .if2 .left))
+    (omega arith, both-inside (a .s .now) (a .place) (a .count) (l .i) (keyMeans (k .result)) (omega arith) (k .ensures) (a .textures) (a .palettes) _ (l .inv .1) (c .before .before .if1 .left) (c .if2 .left))
 
 returns-3 : tie.Need-returns-3 Inv-loop μ-loop
 unfolding inside
@@ -68,12 +54,12 @@ keys-inside-spec =
     Inv-loop
     μ-loop
     loop-holds
-    key-at-requires
-    cast-if1
+    (λ c κs. search needs)
+    (λ c. search needs)
     returns
-    cast-if2
+    (λ c. search needs)
     returns-2
-    add-i
-    loop-less
+    (λ c. search needs)
+    (λ c. search needs)
     loop-again
     returns-3)

@@ -5,9 +5,6 @@ use borrow.Author.Needs.{needs}
 use Rattle.rotation.proofs.entry.Statement.{statement}
 use Rattle.rotation.proofs.entry.Tie as tie
 
-place-requires : tie.Need-place-requires
-place-requires c κs = search needs
-
 returns : tie.Need-returns
 returns c = let a = c .before .before .args in arm (a .select) (a .k) (a .v) _ (c .before .place .ensures) 111 (c .match .keys1)
 
@@ -29,4 +26,4 @@ returns-6 c = let r = c .match .rest in let a = c .before .before .args in other
 
 pub entry-spec : {M : Type 1} → statement M
 entry-spec =
-    tie.close (tie.spec place-requires returns returns-2 returns-3 returns-4 returns-5 returns-6)
+    tie.close (tie.spec (λ c κs. search needs) returns returns-2 returns-3 returns-4 returns-5 returns-6)

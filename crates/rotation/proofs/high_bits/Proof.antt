@@ -8,9 +8,6 @@ use borrow.Author.Needs.{needs}
 use Rattle.rotation.proofs.high_bits.Statement.{statement}
 use Rattle.rotation.proofs.high_bits.Tie as tie
 
-read-requires : tie.Need-read-requires
-read-requires c κs = search needs
-
 returns : tie.Need-returns
 returns c =
     let x = c .before .args .x in
@@ -18,4 +15,4 @@ returns c =
     c .read .ensures ∙ ap (fixed fix1-0-12) e
 
 pub high-bits-spec : {M : Type 1} → statement M
-high-bits-spec = tie.close (tie.spec read-requires returns)
+high-bits-spec = tie.close (tie.spec (λ c κs. search needs) returns)

@@ -5,9 +5,6 @@ use borrow.Author.Needs.{needs}
 use Rattle.rotation.proofs.turn.Statement.{statement}
 use Rattle.rotation.proofs.turn.Tie as tie
 
-bit16-requires : tie.Need-bit16-requires
-bit16-requires c κs = search needs
-
 returns : tie.Need-returns
 unfolding turned
 returns c = rw (sym (c .before .bit16 .ensures) ∙ c .if1 .taken) refl
@@ -17,4 +14,4 @@ unfolding turned
 returns-2 c = rw (sym (c .before .bit16 .ensures) ∙ c .if1 .left) refl
 
 pub turn-spec : {M : Type 1} → statement M
-turn-spec = tie.close (tie.spec bit16-requires returns returns-2)
+turn-spec = tie.close (tie.spec (λ c κs. search needs) returns returns-2)

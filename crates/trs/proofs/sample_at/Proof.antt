@@ -6,18 +6,6 @@ use borrow.Author.Needs.{needs}
 use Rattle.trs.proofs.sample_at.Statement.{statement}
 use Rattle.trs.proofs.sample_at.Tie as tie
 
-sample-axes-requires : tie.Need-sample-axes-requires
-sample-axes-requires c κs = search needs
-
-sample-rotation-requires : tie.Need-sample-rotation-requires
-sample-rotation-requires c κs = search needs
-
-sample-axes-requires-2 : tie.Need-sample-axes-requires-2
-sample-axes-requires-2 c κs = search needs
-
-trs-requires : tie.Need-trs-requires
-trs-requires c κs = search needs
-
 returns : tie.Need-returns
 unfolding matrixAt ofBits
 returns c =
@@ -30,8 +18,8 @@ pub sample-at-spec : {M : Type 1} → statement M
 sample-at-spec =
     tie.close
     (tie.spec
-    sample-axes-requires
-    sample-rotation-requires
-    sample-axes-requires-2
-    trs-requires
+    (λ c κs. search needs)
+    (λ c κs. search needs)
+    (λ c κs. search needs)
+    (λ c κs. search needs)
     returns)

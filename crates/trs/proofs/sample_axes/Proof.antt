@@ -5,15 +5,6 @@ use borrow.Author.Needs.{needs}
 use Rattle.trs.proofs.sample_axes.Statement.{statement}
 use Rattle.trs.proofs.sample_axes.Tie as tie
 
-sample-scalar-requires : tie.Need-sample-scalar-requires
-sample-scalar-requires c κs = search needs
-
-sample-scalar-requires-2 : tie.Need-sample-scalar-requires-2
-sample-scalar-requires-2 c κs = search needs
-
-sample-scalar-requires-3 : tie.Need-sample-scalar-requires-3
-sample-scalar-requires-3 c κs = search needs
-
 returns : tie.Need-returns
 unfolding axesAt
 returns c = let z = c .before in let y = z .before in rw (c .sample-scalar3 .ensures, z .sample-scalar2 .ensures, y .sample-scalar .ensures) refl
@@ -21,4 +12,4 @@ returns c = let z = c .before in let y = z .before in rw (c .sample-scalar3 .ens
 pub sample-axes-spec : {M : Type 1} → statement M
 sample-axes-spec =
     tie.close
-    (tie.spec sample-scalar-requires sample-scalar-requires-2 sample-scalar-requires-3 returns)
+    (tie.spec (λ c κs. search needs) (λ c κs. search needs) (λ c κs. search needs) returns)

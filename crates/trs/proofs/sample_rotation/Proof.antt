@@ -9,26 +9,11 @@ use borrow.Author.Needs.{needs}
 use Rattle.trs.proofs.sample_rotation.Statement.{statement}
 use Rattle.trs.proofs.sample_rotation.Tie as tie
 
-enum-told : tie.Need-enum-told
-enum-told c = search needs
-
-identity-requires : tie.Need-identity-requires
-identity-requires c κs = search needs
-
-enum-known-c : tie.Need-enum-known-c
-enum-known-c c = search needs
-
 matrix-of-requires : tie.Need-matrix-of-requires
 matrix-of-requires c κs =
     let k = c .before in
     let z = k .before .before .before in
-    (subst (InsideRotation (z .args .t) (z .args .s .now)) (k .c .given .1) (z .pre .0), z .pre .1, z .pre .2)
-
-enum-known-c-2 : tie.Need-enum-known-c-2
-enum-known-c-2 c = search needs
-
-identity-requires-2 : tie.Need-identity-requires-2
-identity-requires-2 c κs = search needs
+    subst (InsideRotation (z .args .t) (z .args .s .now)) (k .c .given .1) (z .pre)
 
 returns : tie.Need-returns
 returns c =
@@ -41,7 +26,7 @@ sample-rotations-requires : tie.Need-sample-rotations-requires
 sample-rotations-requires c κs =
     let k = c .before .before .before in
     let z = k .before .before .before in
-    (subst (InsideRotation (z .args .t) (z .args .s .now)) (k .c2 .given .1) (z .pre .0), z .pre .1, z .pre .2, search needs)
+    (subst (InsideRotation (z .args .t) (z .args .s .now)) (k .c2 .given .1) (z .pre), search needs)
 
 returns-2 : tie.Need-returns-2
 unfolding sampleAt
@@ -67,12 +52,12 @@ pub sample-rotation-spec : {M : Type 1} → statement M
 sample-rotation-spec =
     tie.close
     (tie.spec
-    enum-told
-    identity-requires
-    enum-known-c
+    (λ c. search needs)
+    (λ c κs. search needs)
+    (λ c. search needs)
     matrix-of-requires
-    enum-known-c-2
-    identity-requires-2
+    (λ c. search needs)
+    (λ c κs. search needs)
     returns
     sample-rotations-requires
     returns-2

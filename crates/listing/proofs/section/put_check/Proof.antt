@@ -3,56 +3,41 @@ use mathlib.Core.Path.{sym, ap}
 use native.Mathlib.Omega.{arith}
 use borrow.Author.Needs.{needs}
 use Rattle.nitro.specs.ContainerCode.{kindMeans}
-use Rattle.listing.specs.Section.{checkLines}
-use Rattle.listing.proofs.WritesLaws.{same}
+use Rattle.nitro.specs.declared.entry.EntryCheck.{EntryCheck}
+use Rattle.nitro.specs.EntryCode.{checkMeans}
+use Rattle.listing.specs.Listing.{outcomeLines}
+use Rattle.listing.proofs.WritesLaws.{both, same}
 use Rattle.listing.proofs.section.put_check.Statement.{statement}
 use Rattle.listing.proofs.section.put_check.Tie as tie
 
-enum-known-found : tie.Need-enum-known-found
-enum-known-found c = search needs
-
-cast-put-answer : tie.Need-cast-put-answer
-cast-put-answer c = search needs
-
-put-answer-requires : tie.Need-put-answer-requires
-put-answer-requires c κs = search needs
-
-enum-known-found-2 : tie.Need-enum-known-found-2
-enum-known-found-2 c = search needs
-
-put-record-requires : tie.Need-put-record-requires
-put-record-requires c κs = search needs
-
-same-length : tie.Need-same-length
-same-length c = search needs
-
 returns : tie.Need-returns
-returns c =
-    let w3 = c .before .before in
-    let w2 = w3 .before .before .before in
-    let w1 = w2 .before .before .before in
-    same (sym (ap (checkLines (kindMeans (w1 .args .kind))) (w2 .found .given .1))) (omega arith) (w3 .put-answer .ensures)
-
-same-length-2 : tie.Need-same-length-2
-same-length-2 c = search needs
+unfolding outcomeLines
+returns c = let w = c .before .before .before in same (sym (ap (λ (x : EntryCheck). outcomeLines (kindMeans (w .before .before .args .kind)) (checkMeans x)) (w .found .given .1))) (omega arith) (c .put-answer .ensures)
 
 returns-2 : tie.Need-returns-2
+unfolding outcomeLines
 returns-2 c =
-    let w3 = c .before .before in
+    let w4 = c .before .before in
+    let w3 = w4 .before .before .before .before in
     let w2 = w3 .before .before .before in
     let w1 = w2 .before .before .before in
-    same (sym (ap (checkLines (kindMeans (w1 .args .kind))) (w2 .found2 .given .1))) (omega arith) (w3 .put-record .ensures)
+    same (sym (ap (λ (x : EntryCheck). outcomeLines (kindMeans (w1 .before .before .args .kind)) (checkMeans x)) (w1 .found2 .given .1))) (omega arith)
+    (both (both (both (w2 .put-answer2 .ensures) (w3 .put-decimal-line .ensures)) (w4 .put-decimal-line2 .ensures)) (c .put-count .ensures))
 
 pub put-check-spec : {M : Type 1} → statement M
 put-check-spec =
     tie.close
     (tie.spec
-    enum-known-found
-    cast-put-answer
-    put-answer-requires
-    enum-known-found-2
-    put-record-requires
-    same-length
+    (λ c. search needs)
+    (λ c. search needs)
+    (λ c κs. search needs)
+    (λ c. search needs)
+    (λ c κs. search needs)
+    (λ c. search needs)
+    (λ c κs. search needs)
+    (λ c. search needs)
+    (λ c. search needs)
+    (λ c κs. search needs)
+    (λ c κs. search needs)
     returns
-    same-length-2
     returns-2)

@@ -1,6 +1,5 @@
 -- `listing::text::put_text` meets its contract. Assumes nothing.
 use Prim.Native.Nat.{_≤_, _-_}
-use mathlib.Core.Path.{_≡_, refl}
 use native.Mathlib.Omega.{arith}
 use borrow.Author.Needs.{needs}
 use lib.Seq.{take-all}
@@ -11,38 +10,21 @@ use Rattle.listing.proofs.text.put_text.Statement.{statement}
 use Rattle.listing.proofs.text.put_text.Tie as tie
 
 abbrev Inv-loop : tie.InvT-loop
-Inv-loop out₀ at text next₀ i₀ i-end out next i = (i ≤ length text) × (length out ≡ length out₀) × Wrote out₀ out at next i (take i text)
+Inv-loop out₀ at text next₀ i₀ i-end out next i = (i ≤ length text) × Wrote out₀ out at next i (take i text)
 
 abbrev μ-loop : tie.MeasureT-loop
 μ-loop out₀ at text next₀ i₀ i-end out next i = length text - i
 
 loop-holds : tie.Need-loop-holds Inv-loop μ-loop
-loop-holds c = (omega arith, refl, nothing)
-
-shared-slice-read-put-byte : tie.Need-shared-slice-read-put-byte Inv-loop μ-loop
-shared-slice-read-put-byte c = search needs
-
-put-byte-requires : tie.Need-put-byte-requires Inv-loop μ-loop
-put-byte-requires c κs = search needs
-
-add-i : tie.Need-add-i Inv-loop μ-loop
-add-i c = search needs
-
-loop-less : tie.Need-loop-less Inv-loop μ-loop
-loop-less c = search needs
+loop-holds c = (omega arith, nothing)
 
 loop-again : tie.Need-loop-again Inv-loop μ-loop
 loop-again c =
-    let w3 = c .before .before in
-    let w2 = w3 .before .before .before in
-    let w1 = w2 .before in
-    (omega arith, search needs, text-more _ _ (w2 .loop-test .taken) (w1 .loop .inv .2) (w3 .put-byte .ensures))
-
-same-length : tie.Need-same-length Inv-loop μ-loop
-same-length c = search needs
+    let w = c .before .before .before in
+    (omega arith, text-more _ _ (w .loop-test .taken) (w .before .loop .inv .1) (c .put-byte .ensures))
 
 returns : tie.Need-returns Inv-loop μ-loop
-returns c = same (take-all _ _ (c .loop-test .left)) (omega arith) (c .before .loop .inv .2)
+returns c = same (take-all _ _ (c .loop-test .left)) (omega arith) (c .before .loop .inv .1)
 
 pub put-text-spec : {M : Type 1} → statement M
 put-text-spec =
@@ -51,10 +33,9 @@ put-text-spec =
     Inv-loop
     μ-loop
     loop-holds
-    shared-slice-read-put-byte
-    put-byte-requires
-    add-i
-    loop-less
+    (λ c. search needs)
+    (λ c κs. search needs)
+    (λ c. search needs)
+    (λ c. search needs)
     loop-again
-    same-length
     returns)

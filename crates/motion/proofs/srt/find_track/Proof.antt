@@ -1,63 +1,62 @@
--- `srt::find_track` meets its contract. Assumes nothing.
-use mathlib.Core.Path.{subst}
+-- `motion::srt::find_track` meets its contract. Assumes nothing.
+use mathlib.Core.Path.{sym, ap, subst, _∙_}
 use native.Mathlib.Omega.{arith}
-use Rattle.motion.specs.Opened.{MaterialAt, MaterialOpens}
-use Rattle.motion.proofs.SrtLaws.{track-refused, track-past, datum-end, track-stands}
+use Rattle.nitro.specs.Container.{srt}
+use Rattle.nitro.specs.EntryCode.{MaterialOpens}
+use Rattle.motion.proofs.CallsLaws.{entry-denied}
+use Rattle.motion.specs.Calls.{ofMaterial}
+use Rattle.motion.proofs.SrtLaws.{track-past, datum-end, track-stands}
 use borrow.Author.Needs.{needs}
 use Rattle.motion.proofs.srt.find_track.Statement.{statement}
 use Rattle.motion.proofs.srt.find_track.Tie as tie
-use Rattle.motion.proofs.srt.find_track.Reads as reads
-use Rattle.motion.proofs.srt.find_track.Lts as lts
-use Rattle.motion.proofs.opened.open_material.Reads as open-material-reads
-
--- the entry that is opened
-entry-of : (b : lts.After-e (open-material-reads.Asked, open-material-reads.Learnt) reads.Pre reads.Post)
-    → MaterialAt (b .before .before .before .before .args .s .now) (b .before .before .before .before .args .entry) (b .e .given .0 .0) (b .e .given .0 .1 .0)
-entry-of b = let a = b .before .before .before .before .args in subst (MaterialOpens (a .s .now) (a .entry)) (b .e .given .1) (b .before .before .open-material .ensures)
-
-open-material-requires : tie.Need-open-material-requires
-open-material-requires c κs = search needs
-
-enum-known-n : tie.Need-enum-known-n
-enum-known-n c = search needs
-
-enum-known-e : tie.Need-enum-known-e
-enum-known-e c = search needs
 
 returns : tie.Need-returns
-returns c = track-past _ _ _ _ (entry-of (c .before .before .before)) _ (c .if1 .taken)
+returns c =
+    let b = c .before .before .before in
+    let a = b .before .before .before .before .args in
+    let w = subst (MaterialOpens (a .s .now) (a .entry)) (b .e .given .1) (b .before .before .open-material .ensures) in
+    track-past (a .s .now) (a .entry) _ _ w (a .track) (c .if1 .taken)
 
-mul-t10 : tie.Need-mul-t10
-mul-t10 c =
-    let h = datum-end _ _ _ _ (entry-of (c .before .before .before)) _ (c .if1 .left) in
-    omega (arith, c .before .before .before .before .before .before .before .good .0)
+mul-t11 : tie.Need-mul-t11
+mul-t11 c =
+    let b = c .before .before .before .before in
+    let a = b .before .before .before .before .args in
+    let w = subst (MaterialOpens (a .s .now) (a .entry)) (b .e .given .1) (b .before .before .open-material .ensures) in
+    let h = datum-end (a .s .now) (a .entry) _ _ w (a .track) (c .before .if1 .left) in
+    omega (arith, b .before .before .before .before .good .0)
 
-add-t11 : tie.Need-add-t11
-add-t11 c =
-    let b = c .before in
-    let h = datum-end _ _ _ _ (entry-of (b .before .before .before)) _ (b .if1 .left) in
-    omega (arith, b .before .before .before .before .before .before .before .good .0)
+add-t12 : tie.Need-add-t12
+add-t12 c =
+    let b = c .before .before .before .before .before in
+    let a = b .before .before .before .before .args in
+    let w = subst (MaterialOpens (a .s .now) (a .entry)) (b .e .given .1) (b .before .before .open-material .ensures) in
+    let h = datum-end (a .s .now) (a .entry) _ _ w (a .track) (c .before .before .if1 .left) in
+    omega (arith, b .before .before .before .before .good .0)
 
 returns-2 : tie.Need-returns-2
 returns-2 c =
     let b = c .before in
     let a = b .before .before .before .before .args in
-    track-refused (a .s .now) (a .entry) (a .track) _ (subst (MaterialOpens (a .s .now) (a .entry)) (b .n .given .1) (b .before .before .open-material .ensures))
+    let w = subst (MaterialOpens (a .s .now) (a .entry)) (b .n .given .1) (b .before .before .open-material .ensures) in
+    λ q. entry-denied srt (a .s .now) (a .entry) (ofMaterial (a .track) q) _ w
 
 returns-3 : tie.Need-returns-3
 returns-3 c =
-    let b = c .before in
-    track-stands _ _ _ _ (entry-of (b .before .before .before)) _ (b .if1 .left)
+    let b = c .before .before .before .before .before in
+    let a = b .before .before .before .before .args in
+    let w = subst (MaterialOpens (a .s .now) (a .entry)) (b .e .given .1) (b .before .before .open-material .ensures) in
+    track-stands (a .s .now) (a .entry) _ _ w (a .track) (c .before .before .if1 .left)
 
 pub find-track-spec : {M : Type 1} → statement M
 find-track-spec =
     tie.close
     (tie.spec
-    open-material-requires
-    enum-known-n
-    enum-known-e
+    (λ c κs. search needs)
+    (λ c. search needs)
+    (λ c. search needs)
     returns
-    mul-t10
-    add-t11
+    (λ c. search needs)
+    mul-t11
+    add-t12
     returns-2
     returns-3)

@@ -1,64 +1,65 @@
--- `srt::uv_matrix` meets its contract. Assumes nothing.
-use mathlib.Core.Path.{subst}
+-- `motion::srt::uv_matrix` meets its contract. Assumes nothing.
+use Prim.Native.Nat.{ℕ, _+_, _≤_}
+use mathlib.Core.List.{List}
+use mathlib.Core.Path.{sym, ap, subst, _∙_}
 use native.Mathlib.Omega.{arith}
-use Rattle.motion.specs.SrtCode.{TrackStands, TrackFinds}
-use Rattle.motion.proofs.SrtLaws.{datum-room, matrix-of}
+use lib.ListN.{length}
+use Rattle.nitro.proofs.EntryLaws.{onward, lent}
+use Rattle.motion.specs.SrtCode.{TrackFinds}
+use Rattle.util.specs.Reader.{answered}
+use Rattle.material_animation.specs.MaterialAnimationCode.{TrackIs}
+use Rattle.motion.specs.Calls.{uvMatrix, askMaterial}
 use borrow.Author.Needs.{needs}
 use Rattle.motion.proofs.srt.uv_matrix.Statement.{statement}
 use Rattle.motion.proofs.srt.uv_matrix.Tie as tie
-use Rattle.motion.proofs.srt.uv_matrix.Reads as reads
-use Rattle.motion.proofs.srt.uv_matrix.Lts as lts
-use Rattle.material_animation.proofs.eval_uv_mat.Reads as eval-uv-mat-reads
-use Rattle.motion.proofs.srt.find_track.Reads as find-track-reads
-
--- the track that is found
-track-at : (b : lts.After-t (find-track-reads.Asked, find-track-reads.Learnt, eval-uv-mat-reads.Asked, eval-uv-mat-reads.Learnt) reads.Pre reads.Post)
-    → TrackStands (b .before .before .before .before .args .s .now) (b .before .before .before .before .args .entry) (b .before .before .before .before .args .track) (b .t .given .0 .0)
-track-at b = let a = b .before .before .before .before .args in subst (TrackFinds (a .s .now) (a .entry) (a .track)) (b .t .given .1) (b .before .before .find-track .ensures)
-
-find-track-requires : tie.Need-find-track-requires
-find-track-requires c κs = search needs
-
-enum-known-n : tie.Need-enum-known-n
-enum-known-n c = search needs
-
-enum-known-t : tie.Need-enum-known-t
-enum-known-t c = search needs
 
 sub-eval-uv-mat : tie.Need-sub-eval-uv-mat
-sub-eval-uv-mat c = let h = track-at (c .before) .start in omega arith
+sub-eval-uv-mat c =
+    let b = c .before in
+    let a = b .before .before .before .before .args in
+    let w = subst (TrackFinds (a .s .now) (a .entry) (a .track)) (b .t .given .1) (b .before .before .find-track .ensures) in
+    w .start
 
 part-eval-uv-mat-start : tie.Need-part-eval-uv-mat-start
-part-eval-uv-mat-start c = let h = track-at (c .before) .start in omega arith
-
-part-eval-uv-mat-end : tie.Need-part-eval-uv-mat-end
-part-eval-uv-mat-end c = search needs
+part-eval-uv-mat-start c =
+    let b = c .before in
+    let a = b .before .before .before .before .args in
+    let w = subst (TrackFinds (a .s .now) (a .entry) (a .track)) (b .t .given .1) (b .before .before .find-track .ensures) in
+    let h = w .start in
+    search needs
 
 eval-uv-mat-requires : tie.Need-eval-uv-mat-requires
-eval-uv-mat-requires c κs = datum-room _ _ _ _ (track-at (c .before .before))
+eval-uv-mat-requires c κs =
+    let b = c .before .before in
+    let a = b .before .before .before .before .args in
+    let w = subst (TrackFinds (a .s .now) (a .entry) (a .track)) (b .t .given .1) (b .before .before .find-track .ensures) in
+    subst (λ (l : List ℕ). b .t .given .0 .0 .datum + 40 ≤ length l) (sym (onward (b .t .given .0 .0 .offset) (a .s .now))) (w .inside)
 
 returns : tie.Need-returns
 returns c =
     let b = c .before in
     let a = b .before .before .before .before .args in
-    subst (TrackFinds (a .s .now) (a .entry) (a .track)) (b .n .given .1) (b .before .before .find-track .ensures) .matrices (a .frame)
+    let w = subst (TrackFinds (a .s .now) (a .entry) (a .track)) (b .n .given .1) (b .before .before .find-track .ensures) in
+    sym (w (uvMatrix (a .frame)))
 
 returns-2 : tie.Need-returns-2
+unfolding askMaterial
 returns-2 c =
     let b = c .before .before .before in
     let a = b .before .before .before .before .args in
-    matrix-of _ _ _ _ (track-at b) (a .frame) _ (c .eval-uv-mat .ensures)
+    let w = subst (TrackFinds (a .s .now) (a .entry) (a .track)) (b .t .given .1) (b .before .before .find-track .ensures) in
+    ap answered (c .eval-uv-mat .ensures (w .channels) (subst (λ (l : List ℕ). TrackIs l (b .t .given .0 .0 .datum) (w .channels)) (sym (onward (b .t .given .0 .0 .offset) (a .s .now))) (w .track))) ∙ sym (w .answers (uvMatrix (a .frame)))
 
 pub uv-matrix-spec : {M : Type 1} → statement M
 uv-matrix-spec =
     tie.close
     (tie.spec
-    find-track-requires
-    enum-known-n
-    enum-known-t
+    (λ c κs. search needs)
+    (λ c. search needs)
+    (λ c. search needs)
     sub-eval-uv-mat
     part-eval-uv-mat-start
-    part-eval-uv-mat-end
+    (λ c. search needs)
     eval-uv-mat-requires
     returns
     returns-2)

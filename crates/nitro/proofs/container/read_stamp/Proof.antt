@@ -8,25 +8,16 @@ use Rattle.nitro.proofs.container.read_stamp.Tie as tie
 returns : tie.Need-returns
 returns c = stamp-cut (c .before .before .args .s .now) allKinds (c .if1 .taken)
 
-starts-with-requires : tie.Need-starts-with-requires
-starts-with-requires c κs = search needs
-
 returns-2 : tie.Need-returns-2
 returns-2 c =
     let l = c .before .before in
     is-jnt (l .before .before .args .s .now) (l .if1 .left) _ (c .before .starts-with .ensures) (c .if2 .taken)
-
-starts-with-requires-2 : tie.Need-starts-with-requires-2
-starts-with-requires-2 c κs = search needs
 
 returns-3 : tie.Need-returns-3
 returns-3 c =
     let j = c .before .before in
     let l = j .before .before in
     is-srt (l .before .before .args .s .now) (l .if1 .left) _ (j .before .starts-with .ensures) (j .if2 .left) _ (c .before .starts-with2 .ensures) (c .if3 .taken)
-
-starts-with-requires-3 : tie.Need-starts-with-requires-3
-starts-with-requires-3 c κs = search needs
 
 returns-4 : tie.Need-returns-4
 returns-4 c =
@@ -47,10 +38,10 @@ read-stamp-spec =
     tie.close
     (tie.spec
     returns
-    starts-with-requires
+    (λ c κs. search needs)
     returns-2
-    starts-with-requires-2
+    (λ c κs. search needs)
     returns-3
-    starts-with-requires-3
+    (λ c κs. search needs)
     returns-4
     returns-5)

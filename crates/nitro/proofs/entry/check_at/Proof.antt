@@ -11,46 +11,25 @@ use Rattle.nitro.proofs.entry.check_at.Statement.{statement}
 use Rattle.nitro.proofs.entry.check_at.Tie as tie
 
 returns : tie.Need-returns
-returns c = let z = c .before .before in let a = z .args in held-refused (kindMeans (a .kind)) (a .s .now) (a .i) (a .e) (z .pre) 2 (past-end (kindMeans (a .kind)) (a .s .now) (a .e .offset) (c .if1 .taken))
-
-sub-read-value : tie.Need-sub-read-value
-sub-read-value c = search needs
-
-part-read-value-start : tie.Need-part-read-value-start
-part-read-value-start c = search needs
-
-part-read-value-end : tie.Need-part-read-value-end
-part-read-value-end c = search needs
-
-read-value-requires : tie.Need-read-value-requires
-read-value-requires c κs = search needs
-
-enum-known-n : tie.Need-enum-known-n
-enum-known-n c = search needs
-
-enum-known-h : tie.Need-enum-known-h
-enum-known-h c = search needs
+returns c = let z = c .before .before .before in let a = z .args in held-refused (kindMeans (a .kind)) (a .s .now) (a .i) (a .e) (z .pre) 2 (past-end (kindMeans (a .kind)) (a .s .now) (a .e .offset) (c .if1 .taken))
 
 name-at-requires : tie.Need-name-at-requires
-name-at-requires c κs = search needs
+name-at-requires c κs = let z = c .before .before .before .before .before .before .before .before in z .pre (kindMeans (z .args .kind)) .holds .0
 
 add-greater : tie.Need-add-greater
 add-greater c =
     let b = c .before .before .before in
-    let z = b .before .before .before .before .before .before in
+    let z = b .before .before .before .before .before .before .before in
     let a = z .args in
     let v = lent (ValueIs (kindMeans (a .kind))) (a .s .now) (a .e .offset) _ _ (b .before .before .read-value .ensures) (b .h .given .1) in
     let l : length (drop (a .e .offset) (a .s .now)) ≡ length (a .s .now) - a .e .offset = length-drop (a .e .offset) (a .s .now) in
     let i = v .inside in
     omega arith
 
-greater-requires : tie.Need-greater-requires
-greater-requires c κs = search needs
-
 returns-2 : tie.Need-returns-2
 returns-2 c =
     let b = c .before in
-    let z = b .before .before .before .before .before .before in
+    let z = b .before .before .before .before .before .before .before in
     let a = z .args in
     let v = lent (ValueIs (kindMeans (a .kind))) (a .s .now) (a .e .offset) _ _ (b .before .before .read-value .ensures) (b .n .given .1) in
     held-refused (kindMeans (a .kind)) (a .s .now) (a .i) (a .e) (z .pre) _ v
@@ -58,7 +37,7 @@ returns-2 c =
 returns-3 : tie.Need-returns-3
 returns-3 c =
     let b = c .before .before .before .before in
-    let z = b .before .before .before .before .before .before in
+    let z = b .before .before .before .before .before .before .before in
     let a = z .args in
     let v = lent (ValueIs (kindMeans (a .kind))) (a .s .now) (a .e .offset) _ _ (b .before .before .read-value .ensures) (b .h .given .1) in
     held-whole (kindMeans (a .kind)) (a .s .now) (a .i) (a .e) (z .pre) _ v _ _ (c .before .before .name-at .ensures) (c .greater .ensures)
@@ -67,15 +46,16 @@ pub check-at-spec : {M : Type 1} → statement M
 check-at-spec =
     tie.close
     (tie.spec
+    (λ c. search needs)
     returns
-    sub-read-value
-    part-read-value-start
-    part-read-value-end
-    read-value-requires
-    enum-known-n
-    enum-known-h
+    (λ c. search needs)
+    (λ c. search needs)
+    (λ c. search needs)
+    (λ c κs. search needs)
+    (λ c. search needs)
+    (λ c. search needs)
     name-at-requires
     add-greater
-    greater-requires
+    (λ c κs. search needs)
     returns-2
     returns-3)

@@ -5,15 +5,6 @@ use borrow.Author.Needs.{needs}
 use Rattle.nitro.proofs.entry.read_jnt.Statement.{statement}
 use Rattle.nitro.proofs.entry.read_jnt.Tie as tie
 
-read-animation-requires : tie.Need-read-animation-requires
-read-animation-requires c κs = search needs
-
-enum-known-n : tie.Need-enum-known-n
-enum-known-n c = search needs
-
-enum-known-a : tie.Need-enum-known-a
-enum-known-a c = search needs
-
 returns : tie.Need-returns
 returns c = subst (AnimationIs (c .before .before .before .before .before .args .s .now)) (c .before .n .given .1) (c .before .before .before .read-animation .ensures)
 
@@ -24,4 +15,4 @@ returns-2 c =
 
 pub read-jnt-spec : {M : Type 1} → statement M
 read-jnt-spec =
-    tie.close (tie.spec read-animation-requires enum-known-n enum-known-a returns returns-2)
+    tie.close (tie.spec (λ c κs. search needs) (λ c. search needs) (λ c. search needs) returns returns-2)

@@ -1,19 +1,10 @@
 -- `nitro::entry::read_srt` meets its contract. Assumes nothing.
 use mathlib.Core.Path.{subst}
-use Rattle.material_animation.specs.MaterialAnimation.{MaterialIs}
+use Rattle.material_animation.specs.MaterialAnimationCode.{MaterialIs}
 use Rattle.material_animation.proofs.MaterialLaws.{track-count}
 use borrow.Author.Needs.{needs}
 use Rattle.nitro.proofs.entry.read_srt.Statement.{statement}
 use Rattle.nitro.proofs.entry.read_srt.Tie as tie
-
-read-mat-anim-requires : tie.Need-read-mat-anim-requires
-read-mat-anim-requires c κs = search needs
-
-enum-known-n : tie.Need-enum-known-n
-enum-known-n c = search needs
-
-enum-known-a : tie.Need-enum-known-a
-enum-known-a c = search needs
 
 returns : tie.Need-returns
 returns c = subst (MaterialIs (c .before .before .before .before .before .args .s .now)) (c .before .n .given .1) (c .before .before .before .read-mat-anim .ensures)
@@ -26,4 +17,4 @@ returns-2 c =
 
 pub read-srt-spec : {M : Type 1} → statement M
 read-srt-spec =
-    tie.close (tie.spec read-mat-anim-requires enum-known-n enum-known-a returns returns-2)
+    tie.close (tie.spec (λ c κs. search needs) (λ c. search needs) (λ c. search needs) returns returns-2)

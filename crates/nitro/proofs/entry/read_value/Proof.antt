@@ -7,24 +7,6 @@ use borrow.Author.Needs.{needs}
 use Rattle.nitro.proofs.entry.read_value.Statement.{statement}
 use Rattle.nitro.proofs.entry.read_value.Tie as tie
 
-enum-told : tie.Need-enum-told
-enum-told c = search needs
-
-read-jnt-requires : tie.Need-read-jnt-requires
-read-jnt-requires c κs = search needs
-
-enum-told-2 : tie.Need-enum-told-2
-enum-told-2 c = search needs
-
-read-srt-requires : tie.Need-read-srt-requires
-read-srt-requires c κs = search needs
-
-enum-told-3 : tie.Need-enum-told-3
-enum-told-3 c = search needs
-
-read-pat-requires : tie.Need-read-pat-requires
-read-pat-requires c κs = search needs
-
 returns : tie.Need-returns
 returns c = subst (λ (k : Kind). ValueIs (kindMeans k) (c .before .before .before .before .args .s .now) (c .read-jnt .result)) (sym (c .before .enum-told .given .1)) (c .read-jnt .ensures)
 
@@ -38,12 +20,12 @@ pub read-value-spec : {M : Type 1} → statement M
 read-value-spec =
     tie.close
     (tie.spec
-    enum-told
-    read-jnt-requires
-    enum-told-2
-    read-srt-requires
-    enum-told-3
-    read-pat-requires
+    (λ c. search needs)
+    (λ c κs. search needs)
+    (λ c. search needs)
+    (λ c κs. search needs)
+    (λ c. search needs)
+    (λ c κs. search needs)
     returns
     returns-2
     returns-3)

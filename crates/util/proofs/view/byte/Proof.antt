@@ -5,11 +5,8 @@ use borrow.Author.Needs.{needs}
 use Rattle.util.proofs.view.byte.Statement.{statement}
 use Rattle.util.proofs.view.byte.Tie as tie
 
-shared-slice-read-result : tie.Need-shared-slice-read-result
-shared-slice-read-result c = search needs
-
 returns : tie.Need-returns
 returns c = let a = c .before .args in word-one (a .s .now) (a .p) (omega arith)
 
 pub byte-spec : {M : Type 1} → statement M
-byte-spec = tie.close (tie.spec shared-slice-read-result returns)
+byte-spec = tie.close (tie.spec (λ c. search needs) returns)

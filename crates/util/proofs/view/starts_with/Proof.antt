@@ -7,14 +7,8 @@ use borrow.Author.Needs.{needs}
 use Rattle.util.proofs.view.starts_with.Statement.{statement}
 use Rattle.util.proofs.view.starts_with.Tie as tie
 
-shared-slice-read-if1 : tie.Need-shared-slice-read-if1
-shared-slice-read-if1 c = search needs
-
 returns : tie.Need-returns
 returns c = let a = c .before .before .args in sym (same-differ (a .s .now) (a .a ∷ a .b ∷ a .c ∷ a .d ∷ []) 4 3 (lit≤ tt) (c .if1 .taken))
-
-shared-slice-read-if2 : tie.Need-shared-slice-read-if2
-shared-slice-read-if2 c = search needs
 
 returns-2 : tie.Need-returns-2
 returns-2 c =
@@ -22,18 +16,12 @@ returns-2 c =
     let a = j .before .before .args in
     sym (same-step (a .s .now) (a .a ∷ a .b ∷ a .c ∷ a .d ∷ []) 4 3 (lit≤ tt) (j .if1 .left) ∙ same-differ (a .s .now) (a .a ∷ a .b ∷ a .c ∷ a .d ∷ []) 4 2 (lit≤ tt) (c .if2 .taken))
 
-shared-slice-read-if3 : tie.Need-shared-slice-read-if3
-shared-slice-read-if3 c = search needs
-
 returns-3 : tie.Need-returns-3
 returns-3 c =
     let k = c .before .before in
     let j = k .before .before in
     let a = j .before .before .args in
     sym (same-step (a .s .now) (a .a ∷ a .b ∷ a .c ∷ a .d ∷ []) 4 3 (lit≤ tt) (j .if1 .left) ∙ (same-step (a .s .now) (a .a ∷ a .b ∷ a .c ∷ a .d ∷ []) 4 2 (lit≤ tt) (k .if2 .left) ∙ same-differ (a .s .now) (a .a ∷ a .b ∷ a .c ∷ a .d ∷ []) 4 1 (lit≤ tt) (c .if3 .taken)))
-
-shared-slice-read-result : tie.Need-shared-slice-read-result
-shared-slice-read-result c = search needs
 
 returns-4 : tie.Need-returns-4
 returns-4 c =
@@ -47,11 +35,11 @@ pub starts-with-spec : {M : Type 1} → statement M
 starts-with-spec =
     tie.close
     (tie.spec
-    shared-slice-read-if1
+    (λ c. search needs)
     returns
-    shared-slice-read-if2
+    (λ c. search needs)
     returns-2
-    shared-slice-read-if3
+    (λ c. search needs)
     returns-3
-    shared-slice-read-result
+    (λ c. search needs)
     returns-4)

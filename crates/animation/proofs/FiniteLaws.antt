@@ -1,0 +1,155 @@
+-- What an animation's readers give is so large at most that no entry of a matrix is a NaN or an infinity. Assumes nothing.
+use Prim.Native.Nat.{ℕ, _+_, _*_, _≤_, _<_}
+use mathlib.Core.Bool.{Bool, true, false, cond}
+use mathlib.Core.List.{List}
+use mathlib.Core.Path.{_≡_, _∙_}
+use native.Mathlib.Omega.{arith}
+use lib.Dec.{eqb, lit≤}
+use lib.ListN.{length, getD}
+use lib.Ieee.{Float}
+use Rattle.util.specs.Bits.{bits, bit}
+use Rattle.util.specs.Fixed.{fix1-19-12, fix1-3-12, width}
+use Rattle.util.specs.Reader.{done, part, accepted, run}
+use Rattle.util.proofs.All.{Bytes, Each, each-at, each-of, Many, view-many, All, all-run, all-cond, all-bind, all-after, all-each}
+use Rattle.util.proofs.BelowLaws.{Small, Mixed, below-zero, below-one, small-fixed}
+use Rattle.matrix.specs.Finite.{FiniteMat}
+use Rattle.matrix.specs.Matrix.{f0, f1, trs}
+use Rattle.matrix.proofs.MagnitudeLaws.{Three, Nine, three, translation-below, rotation-below, scale-below, product-below, below-mat}
+use Rattle.rotation.proofs.MagnitudeLaws.{pivot-small, basis-small}
+use Rattle.curve.specs.Curve.{none}
+use Rattle.curve.proofs.MagnitudeLaws.{SizedCurve, scalar-sized, rotation-sized, number-small, sized}
+use Rattle.animation.specs.Animation.{Axes, Object, Animation, noAxes, Triple, leftOutBit, valuesOf, widthOf, formatOf, scalarList, scalar, axes, animatedAxes, pivotOf, basisOf, Referred, pivotRecord, basisRecord, referred, reference, rotationList, rotation, animatedRotation, animated, object, animation, axesAt, matrixAt}
+use Rattle.animation.proofs.ScalarLaws.{end-lt, values-le}
+
+pub record SizedAxes (a : Axes) : Type 0 where
+  pub x : SizedCurve Small (a .x)
+  pub y : SizedCurve Small (a .y)
+  pub z : SizedCurve Small (a .z)
+
+pub record Sized (o : Object) : Type 0 where
+  pub translation : SizedAxes (o .translation)
+  pub rotation : SizedCurve (Nine Small) (o .rotation)
+  pub scale : SizedAxes (o .scale)
+
+-- three axes at a frame
+pub axes-sized : (default : Float) → Small default → (a : Axes) → SizedAxes a → (frame : ℕ) → Three Mixed (axesAt default a frame)
+unfolding axesAt
+axes-sized d p a h frame = three (scalar-sized d p (a .x) (h .x) frame) (scalar-sized d p (a .y) (h .y) frame) (scalar-sized d p (a .z) (h .z) frame)
+
+pub matrix-finite : (o : Object) → Sized o → (frame : ℕ) → FiniteMat (matrixAt o frame)
+unfolding matrixAt trs
+matrix-finite o h frame =
+    let t = axes-sized f0 below-zero (o .translation) (h .translation) frame in
+    let r = rotation-sized (o .rotation) (h .rotation) frame in
+    let s = axes-sized f1 below-one (o .scale) (h .scale) frame in
+    let moved = product-below {j = 84} {k = 84} (lit≤ tt) (translation-below (t .x) (t .y) (t .z)) (rotation-below r) in
+    below-mat (product-below {j = 171} {k = 84} (lit≤ tt) moved (scale-below (s .x) (s .y) (s .z)))
+
+-- ---- what the readers give
+
+-- of a reader's value and the place of the next field: P of the value
+abbrev Of : {X : Type 0} → (X → Type 0) → X × ℕ → Type 0
+Of P v = P (v .0)
+
+format-width : (w : ℕ) → width (formatOf (widthOf w)) ≤ 32
+format-width w = go (eqb (widthOf w) 0)
+  where
+    go : (b : Bool) → width (cond b fix1-19-12 fix1-3-12) ≤ 32
+    go true = lit≤ tt
+    go false = lit≤ tt
+
+few : (w : ℕ) → valuesOf w < 65536
+few w = let h = values-le w in omega arith
+
+scalar-list-all : (t : Triple) (w off next : ℕ) → All (Of (SizedCurve Small)) (scalarList t w off next)
+unfolding scalarList
+scalar-list-all t w off next =
+    all-bind (Many Small (valuesOf w)) _ _ _ (view-many Small _ _ (λ bs _. number-small (formatOf (widthOf w)) (format-width w) bs) _) λ vs h. sized vs (end-lt w) (few w) h
+
+scalar-all : (t : Triple) (b : Bool) (p : ℕ) → All (Of (SizedCurve Small)) (scalar t b p)
+unfolding scalar
+scalar-all t true p = all-after _ _ _ λ bs. number-small fix1-19-12 (lit≤ tt) bs
+scalar-all t false p = all-after _ _ _ λ f. scalar-list-all t (f .0) (f .1) (p + 8)
+
+axes-all : (t : Triple) (flags p : ℕ) → All (Of SizedAxes) (axes t flags p)
+unfolding axes
+axes-all t flags p =
+    all-bind (Of (SizedCurve Small)) _ _ _ (scalar-all _ _ _) λ x hx.
+    all-bind (Of (SizedCurve Small)) _ _ _ (scalar-all _ _ _) λ y hy.
+    all-bind (Of (SizedCurve Small)) _ _ _ (scalar-all _ _ _) λ z hz.
+    record { x = hx; y = hy; z = hz }
+
+no-axes : SizedAxes noAxes
+no-axes = record { x = tt; y = tt; z = tt }
+
+animated-axes-all : (t : Triple) (flags p : ℕ) → All (Of SizedAxes) (animatedAxes t flags p)
+unfolding animatedAxes
+animated-axes-all t flags p = all-cond _ (eqb (bits flags (leftOutBit t) (leftOutBit t + 2)) 0) (axes t flags p) (done (noAxes, p)) (axes-all _ _ _) no-axes
+
+module _ (pivot basis : ℕ) where
+  reference-all : (x : ℕ) → All (Nine Small) (reference pivot basis x)
+  unfolding reference referred pivotOf basisOf
+  reference-all x = go (bit x 15)
+    where
+      gives : Bool → Referred
+      gives b = cond b (pivotRecord (pivot + 6 * bits x 0 15)) (basisRecord (basis + 10 * bits x 0 15))
+
+      go : (b : Bool) → All (Nine Small) (part (gives b .place) (gives b .size) (λ bs. done (gives b .gives bs)))
+      go true = λ bs h. pivot-small _ _ _ _ (small-fixed fix1-3-12 (lit≤ tt) _) (small-fixed fix1-3-12 (lit≤ tt) _)
+      go false = λ bs h. basis-small _ _ _ _ _
+
+  rotation-list-all : (w off next : ℕ) → All (Of (SizedCurve (Nine Small))) (rotationList pivot basis w off next)
+  unfolding rotationList
+  rotation-list-all w off next =
+      all-bind (Many (λ _. Unit {0}) (valuesOf w)) _ _ _ (view-many _ _ _ (λ _ _. tt) _) λ xs n.
+      all-bind (Many (Nine Small) (length xs)) _ _ _ (all-each _ _ xs (each-of _ reference-all xs)) λ ms h. sized ms (end-lt w) (few w) (h .0 ∙ n .0, h .1)
+
+  rotation-all : (b : Bool) (p : ℕ) → All (Of (SizedCurve (Nine Small))) (rotation pivot basis b p)
+  unfolding rotation
+  rotation-all true p =
+      all-after _ _ _ λ x.
+      all-after _ _ _ λ _.
+      all-bind (Nine Small) _ _ _ (reference-all x) λ m h. h
+  rotation-all false p = all-after _ _ _ λ f. rotation-list-all (f .0) (f .1) (p + 8)
+
+  animated-all : (flags p : ℕ) → All Sized (animated pivot basis flags p)
+  unfolding animated animatedRotation
+  animated-all flags p =
+      all-bind (Of SizedAxes) _ _ _ (animated-axes-all _ _ _) λ a ha.
+      all-bind (Of (SizedCurve (Nine Small))) _ _ _ (all-cond _ (eqb (bits flags 6 8) 0) (rotation pivot basis (bit flags 8) (a .1)) (done (none, a .1)) (rotation-all _ _) tt) λ r hr.
+      all-bind (Of SizedAxes) _ _ _ (animated-axes-all _ _ _) λ s hs.
+      record { translation = ha; rotation = hr; scale = hs }
+
+  object-all : (p : ℕ) → All Sized (object pivot basis p)
+  unfolding object
+  object-all p =
+      all-after _ _ _ λ flags.
+      all-after _ _ _ λ _.
+      all-cond _ (bit flags 0) (done _) (animated pivot basis flags (p + 4)) (record { translation = no-axes; rotation = tt; scale = no-axes }) (animated-all _ _)
+
+abbrev pub SizedAnimation : Animation → Type 0
+SizedAnimation a = Each Sized (a .objects)
+
+pub animation-all : All SizedAnimation animation
+unfolding animation
+animation-all =
+    all-after _ _ _ λ stamp.
+    all-after _ _ _ λ frames.
+    all-after _ _ _ λ objects.
+    all-after _ _ _ λ _.
+    all-after _ _ _ λ pivot.
+    all-after _ _ _ λ basis.
+    all-after _ _ _ λ offsets.
+    all-after _ _ _ λ _.
+    all-after _ _ _ λ _.
+    all-after _ _ _ λ _.
+    all-bind (Many Sized (length offsets)) _ _ _ (all-each _ _ offsets (each-of _ (object-all pivot basis) offsets)) λ os h. h .1
+
+-- no entry of a sampled matrix is a NaN or an infinity, whatever bytes are read
+pub objects-finite : (a : Animation) → SizedAnimation a
+    → (i : ℕ) → i < length (a .objects) → (d : Object) (frame : ℕ) → FiniteMat (matrixAt (getD (a .objects) i d) frame)
+objects-finite a h i l d frame = matrix-finite _ (each-at Sized (a .objects) d h i l) frame
+
+pub animation-finite : (s : List ℕ) → Bytes s → (m m' : ℕ) (a : Animation) → run animation s m ≡ accepted m' a
+    → (i : ℕ) → i < length (a .objects) → (d : Object) (frame : ℕ) → FiniteMat (matrixAt (getD (a .objects) i d) frame)
+animation-finite s b m m' a e = objects-finite a (all-run SizedAnimation animation animation-all s b m m' a e)

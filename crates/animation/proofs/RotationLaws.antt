@@ -1,0 +1,204 @@
+-- The runs of the readers of rotations, by what the section holds. Assumes nothing.
+use Prim.Native.Nat.{ℕ, zero, suc, _+_, _*_, max, _≤_, _<_}
+use mathlib.Core.Bool.{Bool, true, false, cond}
+use mathlib.Core.List.{List, [], _∷_, map}
+use mathlib.Core.Path.{_≡_, refl, sym, ap, subst, _∙_}
+use native.Mathlib.Nat.{mod-lt, le-refl}
+use native.Mathlib.Omega.{arith}
+use lib.Dec.{eqb}
+use lib.ListN.{length, drop, getD}
+use lib.Pow.{pow-pos}
+use Rattle.util.specs.declared.cur.Reach.{Reach}
+use Rattle.util.specs.declared.cur.Reach.the-variants.{Whole, Refused}
+use Rattle.matrix.specs.declared.Mat3.{Mat3}
+use Rattle.matrix.specs.Matrix.{identity3}
+use Rattle.animation.specs.declared.Tables.{Tables}
+use Rattle.animation.specs.declared.RotationCurve.{RotationCurve}
+use Rattle.animation.specs.declared.RotationRead.{RotationRead}
+use Rattle.curve.specs.declared.SampleList.{SampleList}
+use Rattle.util.specs.Bits.{bits, bit}
+use Rattle.util.specs.View.{little, wordAt, view}
+use Rattle.util.specs.Reader.{Reader, done, Outcome, accepted, refused, ends, run, bind, each}
+use Rattle.util.specs.ReaderCode.{reachOf}
+use Rattle.util.proofs.Cut.{had-part, had, past, short}
+use Rattle.util.proofs.ViewLaws.{view-take, view-length}
+use Rattle.util.proofs.Each.{whole-of, refused-of, each-read}
+use Rattle.util.proofs.Calls.{after, run-bind, accepted-first}
+use Rattle.curve.specs.Curve.{Curve, constant, samples}
+use Rattle.curve.specs.CurveCode.{listMeans}
+use Rattle.animation.specs.Animation.{startOf, endOf, valuesOf, listOf, Referred, pivotRecord, basisRecord, referred, reference, rotationList, rotation}
+use Rattle.animation.specs.AnimationCode.{codeList, referenceEnd, matrixFor, RotationReads}
+use Rattle.animation.proofs.ScalarLaws.{values-le}
+
+-- ---- references
+
+-- a record stands where its data's place and its number say
+pub refers : (pivot basis x : ℕ) (b : Bool) → b ≡ bit x 15 → (i : ℕ) → i ≡ bits x 0 15 → cond b (pivotRecord (pivot + 6 * i)) (basisRecord (basis + 10 * i)) ≡ referred pivot basis x
+unfolding referred
+refers pivot basis x b q i e =
+    ap (λ (n : ℕ). cond b (pivotRecord (pivot + 6 * n)) (basisRecord (basis + 10 * n))) e
+    ∙ ap (λ (y : Bool). cond y (pivotRecord (pivot + 6 * bits x 0 15)) (basisRecord (basis + 10 * bits x 0 15))) q
+
+-- the place of the data, looked up by bit 15
+looked : (pivot basis j : ℕ) → j < 2 → getD (basis ∷ pivot ∷ []) j 0 ≡ cond (eqb j 1) pivot basis
+looked pivot basis zero l = refl
+looked pivot basis (suc zero) l = refl
+looked pivot basis (suc (suc j)) l = absurd (omega arith)
+
+pub lookup-bound : (x j : ℕ) → j ≡ bits x 15 16 → j < 2
+lookup-bound x j e = subst (λ (k : ℕ). k < 2) (sym e) (mod-lt _ (pow-pos 1))
+
+pub lookup-of : (pivot basis x : ℕ) (b : Bool) → b ≡ bit x 15 → (j : ℕ) → j ≡ bits x 15 16 → getD (basis ∷ pivot ∷ []) j 0 ≡ cond b pivot basis
+lookup-of pivot basis x b q j e = looked pivot basis j (lookup-bound x j e) ∙ ap (λ (k : ℕ). cond (eqb k 1) pivot basis) e ∙ ap (λ (y : Bool). cond y pivot basis) (sym q)
+
+-- no record's place wraps
+pub place-small : (t : Tables) (x : ℕ) → t .pivot < 4294967296 → t .basis < 4294967296 → (r : Referred) → r ≡ referred (t .pivot) (t .basis) x → r .place < 8589934592
+unfolding referred
+place-small t x p b r e = subst (λ (y : Referred). y .place < 8589934592) (sym e) (go (bit x 15))
+  where
+    go : (y : Bool) → cond y (pivotRecord (t .pivot + 6 * bits x 0 15)) (basisRecord (t .basis + 10 * bits x 0 15)) .place < 8589934592
+    go true = let h = mod-lt x (pow-pos 15) in omega arith
+    go false = let h = mod-lt x (pow-pos 15) in omega arith
+
+reference-run : (t : Tables) (x : ℕ) (s : List ℕ) (m : ℕ) → run (reference (t .pivot) (t .basis) x) s m ≡ ends (referenceEnd t x) (length s) (accepted (max m (referenceEnd t x)) (matrixFor t s x))
+unfolding reference run
+reference-run t x s m = refl
+
+module _ (t : Tables) (x : ℕ) (s : List ℕ) (m : ℕ) where
+  pub record-short : (e : ℕ) → e ≡ referenceEnd t x → length s < e → Refused 2 ≡ reachOf (run (reference (t .pivot) (t .basis) x) s m)
+  record-short e q h = ap reachOf (sym (reference-run t x s m ∙ short _ _ _ (subst (λ (n : ℕ). length s < n) q h)))
+
+  pub record-whole : (e far : ℕ) → e ≡ referenceEnd t x → far ≡ max m e → e ≤ length s → Whole far ≡ reachOf (run (reference (t .pivot) (t .basis) x) s m)
+  record-whole e far q g h =
+      ap Whole (g ∙ ap (max m) q) ∙ ap reachOf (sym (reference-run t x s m ∙ had _ _ _ _ (subst (λ (n : ℕ). n ≤ length s) q h) refl))
+
+  -- an accepted reference is a record that stands in the section
+  pub record-read : (k : ℕ) (v : Mat3) → run (reference (t .pivot) (t .basis) x) s m ≡ accepted k v → (v ≡ matrixFor t s x) × (referenceEnd t x ≤ length s)
+  record-read k v e =
+      let w = had-part (referenceEnd t x) (length s) (accepted (max m (referenceEnd t x)) (matrixFor t s x)) k v (sym (reference-run t x s m) ∙ e) in
+      let q = w .1 in (cc, w .0)
+
+-- ---- rotations
+
+module _ (t : Tables) (s : List ℕ) where
+  abbrev ref : ℕ → Reader Mat3
+  ref x = reference (t .pivot) (t .basis) x
+
+  -- the matrices of a list of references
+  matrices : (xs : List ℕ) (m m' : ℕ) (ms : List Mat3) → run (each ref xs) s m ≡ accepted m' ms → ms ≡ map (matrixFor t s) xs
+  unfolding each run
+  matrices [] m m' ms e = cc
+  matrices (x ∷ xs) m m' ms e =
+      let w = accepted-first (ref x) (λ y. bind (each ref xs) (λ ys. done (y ∷ ys))) s m m' ms e in
+      let v = accepted-first (each ref xs) (λ ys. done (w .1 ∷ ys)) s (w .0) m' ms (w .3) in
+      let p = record-read t x s m (w .0) (w .1) (w .2) .0 in
+      let q = matrices xs (w .0) (v .0) (v .1) (v .2) in
+      let o : ms ≡ w .1 ∷ v .1 = cc in
+      o ∙ (ap (λ (y : Mat3). y ∷ v .1) p ∙ ap (λ (ys : List Mat3). matrixFor t s x ∷ ys) q)
+
+  -- each record of a list of references that is accepted stands in the section
+  records : (xs : List ℕ) (m m' : ℕ) (ms : List Mat3) → run (each ref xs) s m ≡ accepted m' ms → (i : ℕ) → i < length xs → referenceEnd t (getD xs i 0) ≤ length s
+  records xs m m' ms e i h =
+      let w = each-read ref s xs m m' ms e .1 i 0 identity3 h in
+      record-read t (getD xs i 0) s 0 (w .0) (getD ms i identity3) (w .1) .1
+
+module _ (t : Tables) (p m : ℕ) (s : List ℕ) where
+  abbrev turned : Reader (Curve Mat3 × ℕ)
+  turned = rotation (t .pivot) (t .basis) true p
+
+  pub constant-rotation-short : length s < p + 4 → run turned s m ≡ refused 2
+  unfolding run bind rotation
+  constant-rotation-short h = past _ _ _ (short _ _ _ (omega arith))
+
+  -- the reference, after both words
+  constant-rotation : p + 4 ≤ length s → run turned s m ≡ after (run (reference (t .pivot) (t .basis) (wordAt 2 s p)) s (max m (p + 4))) (λ j v. accepted j (constant v, p + 4))
+  unfolding run bind rotation
+  constant-rotation h =
+      had _ _ _ _ (omega arith)
+      (had _ _ _ _ (omega arith)
+      (ap (λ (j : ℕ). run (bind (reference (t .pivot) (t .basis) (wordAt 2 s p)) (λ v. done (constant v, p + 4))) s j) (both-words p m)
+      ∙ run-bind (reference (t .pivot) (t .basis) (wordAt 2 s p)) (λ v. done (constant v, p + 4)) s (max m (p + 4))))
+    where
+      both-words : (p m : ℕ) → max (max m (p + 2)) (p + 2 + 2) ≡ max m (p + 4)
+      both-words p m = omega arith
+
+  module _ (h : p + 4 ≤ length s) (x : ℕ) (e : x ≡ wordAt 2 s p) (j : ℕ) (g : j ≡ max m (p + 4)) (r : Reach) (q : r ≡ reachOf (run (reference (t .pivot) (t .basis) x) s j)) where
+    here : run turned s m ≡ after (run (reference (t .pivot) (t .basis) x) s j) (λ j v. accepted j (constant v, p + 4))
+    here =
+        constant-rotation h
+        ∙ (ap (λ (i : ℕ). after (run (reference (t .pivot) (t .basis) (wordAt 2 s p)) s i) (λ j v. accepted j (constant v, p + 4))) (sym g)
+        ∙ ap (λ (y : ℕ). after (run (reference (t .pivot) (t .basis) y) s j) (λ j v. accepted j (constant v, p + 4))) (sym e))
+
+    pub constant-rotation-refused : (n : ℕ) → r ≡ Refused n → run turned s m ≡ refused n
+    unfolding after
+    constant-rotation-refused n k = here ∙ ap (λ (o : Outcome Mat3). after o (λ j v. accepted j (constant v, p + 4))) (refused-of (run (reference (t .pivot) (t .basis) x) s j) n (sym q ∙ k))
+
+    pub constant-rotation-whole : (far : ℕ) → r ≡ Whole far → RotationReads turned t s m (p + 8) (RotationRead.Whole (RotationCurve.Constant x) (record { pos = p + 4; reach = far }))
+    unfolding after
+    constant-rotation-whole far k =
+        let w = whole-of (run (reference (t .pivot) (t .basis) x) s j) far (sym q ∙ k) in
+        let v = record-read t x s j far (w .0) (w .1) in
+        record {
+          reads = here ∙ (ap (λ (o : Outcome Mat3). after o (λ j v. accepted j (constant v, p + 4))) (w .1) ∙ ap (λ (y : Mat3). accepted far (constant y, p + 4)) (v .0));
+          holds = (v .1, omega arith);
+        }
+
+module _ (t : Tables) (w off next m : ℕ) (s : List ℕ) where
+  abbrev turns : Reader (Curve Mat3 × ℕ)
+  turns = rotationList (t .pivot) (t .basis) w off next
+
+  pub references-short : (l : SampleList) → l ≡ codeList w off 2 → length s < off + 2 * l .length → run turns s m ≡ refused 2
+  unfolding run bind rotationList
+  references-short l q h = short _ _ _ (subst (λ (x : SampleList). length s < off + 2 * x .length) q h)
+
+  -- the references, after the list
+  abbrev after-list : Outcome (List Mat3) → Outcome (Curve Mat3 × ℕ)
+  after-list o = after o (λ j ms. accepted j (samples (listOf w off 2) ms, next))
+
+  abbrev followed : ℕ → ℕ → Outcome (List Mat3)
+  followed n j = run (each (ref t s) (view 2 little n (drop off s))) s j
+
+  rotation-list : off + 2 * valuesOf w ≤ length s → run turns s m ≡ after-list (followed (valuesOf w) (max m (off + 2 * valuesOf w)))
+  unfolding run bind rotationList
+  rotation-list h =
+      had _ _ _ _ h
+      (rw (view-take 2 little (valuesOf w) (drop off s))
+      (run-bind (each (ref t s) (view 2 little (valuesOf w) (drop off s))) (λ ms. done (samples (listOf w off 2) ms, next)) s (max m (off + 2 * valuesOf w))))
+
+  module _ (l : SampleList) (q : l ≡ codeList w off 2) (h : off + 2 * l .length ≤ length s) (j : ℕ) (g : j ≡ max m (off + 2 * l .length)) (r : Reach) (z : r ≡ reachOf (followed (l .length) j)) where
+    count : l .length ≡ valuesOf w
+    count = ap (λ (x : SampleList). x .length) q
+
+    there : run turns s m ≡ after-list (followed (l .length) j)
+    there =
+        rotation-list (subst (λ (n : ℕ). off + 2 * n ≤ length s) count h)
+        ∙ (ap (λ (n : ℕ). after-list (followed n (max m (off + 2 * n)))) (sym count)
+        ∙ ap (λ (i : ℕ). after-list (followed (l .length) i)) (sym g))
+
+    pub references-refused : (n : ℕ) → r ≡ Refused n → run turns s m ≡ refused n
+    unfolding after
+    references-refused n k = there ∙ ap after-list (refused-of (followed (l .length) j) n (sym z ∙ k))
+
+    pub references-whole : startOf w < endOf w → (far : ℕ) → r ≡ Whole far → RotationReads turns t s m next (RotationRead.Whole (RotationCurve.Samples l) (record { pos = next; reach = far }))
+    unfolding after
+    references-whole f far k =
+        let v = whole-of (followed (l .length) j) far (sym z ∙ k) in
+        let ms = matrices t s (view 2 little (l .length) (drop off s)) _ _ _ (v .1) in
+        let place : off ≡ l .place = ap (λ (x : SampleList). x .place) (sym q) in
+        record {
+          reads =
+              there
+              ∙ (ap after-list (v .1)
+              ∙ (ap (λ (y : List Mat3). accepted far (samples (listOf w off 2) y, next)) ms
+              ∙ (ap (λ (x : SampleList). accepted far (samples (listMeans x) (map (matrixFor t s) (view 2 little (l .length) (drop off s))), next)) (sym q)
+              ∙ ap (λ (o : ℕ). accepted far (samples (listMeans l) (map (matrixFor t s) (view 2 little (l .length) (drop o s))), next)) place)));
+          holds = (
+            record {
+              room = subst (λ (o : ℕ). o + 2 * l .length ≤ length s) place h;
+              few = subst (λ (n : ℕ). n ≤ 65535) (sym count) (values-le w);
+              ordered = subst (λ (x : SampleList). x .start < x .end) (sym q) f;
+              records = λ i i<n. subst (λ (o : ℕ). referenceEnd t (getD (view 2 little (l .length) (drop o s)) i 0) ≤ length s) place (records t s (view 2 little (l .length) (drop off s)) _ _ _ (v .1) i (subst (λ (n : ℕ). i < n) (sym (view-length 2 little (l .length) (drop off s))) i<n));
+            },
+            le-refl next,
+          );
+        }

@@ -1,0 +1,57 @@
+-- What the structs of curve's code stand for. Assumes nothing.
+use Prim.Native.Nat.{ℕ, _+_, _-_, _*_, _≤_}
+use mathlib.Core.List.{List}
+use lib.Ieee.{Float, binary64, sub}
+use lib.ListN.{length, drop}
+use Rattle.util.specs.View.{view}
+use Rattle.util.specs.Fixed.{Fix, fix1-19-12, fix1-3-12, fix1-10-5}
+use Rattle.curve.specs.declared.Spot.{Spot}
+use Rattle.curve.specs.declared.Number.{Number}
+use Rattle.curve.specs.declared.Number.the-variants.{Fix1_19_12, Fix1_3_12, Fix1_10_5}
+use Rattle.curve.specs.declared.SampleList.{SampleList}
+use Rattle.curve.specs.declared.ScalarCurve.{ScalarCurve}
+use Rattle.curve.specs.declared.ScalarCurve.the-variants.{None, Constant, Samples}
+use Rattle.curve.specs.declared.ScalarRecord.{ScalarRecord}
+use Rattle.curve.specs.declared.ScalarRecord.the-variants as scalar-record
+use Rattle.curve.specs.Curve.{ListRecord, Curve, none, constant, samples, numberBytes, numberOf, floor, ceil, ofWhole, Recorded, noCurve, always, listed}
+
+-- the places around i
+abbrev pub spotAt : Float → Spot
+spotAt i = record { lo = floor i; hi = ceil i; g = sub binary64 i (ofWhole (floor i)) }
+
+abbrev pub formatMeans : Number → Fix
+formatMeans Fix1_19_12 = fix1-19-12
+formatMeans Fix1_3_12 = fix1-3-12
+formatMeans Fix1_10_5 = fix1-10-5
+
+abbrev pub listMeans : SampleList → ListRecord
+listMeans l = record { start = l .start; end = l .end; place = l .place; size = l .size }
+
+-- the values of a list that stands in the section
+abbrev pub valuesIn : List ℕ → SampleList → Number → List Float
+valuesIn s l number = view (l .size) (numberOf (formatMeans number)) (l .length) (drop (l .place) s)
+
+-- a constant is a number of 1.19.12 at its place
+abbrev pub scalarCurve : List ℕ → ScalarCurve → Curve Float
+scalarCurve s None = none
+scalarCurve s (Constant place) = constant (numberOf fix1-19-12 (drop place s))
+scalarCurve s (Samples l number) = samples (listMeans l) (valuesIn s l number)
+
+-- a list whose values stand in the section
+pub record InsideList (s : List ℕ) (l : SampleList) (number : Number) : Type 0 where
+  pub ends : l .place + l .size * l .length ≤ length s
+  pub few : l .length ≤ 65535
+  pub frames : l .length ≤ l .end - l .start
+  pub wide : numberBytes (formatMeans number) ≤ l .size
+  pub small : l .size ≤ 8
+
+abbrev pub Inside : List ℕ → ScalarCurve → Type 0
+Inside s None = Unit {0}
+Inside s (Constant place) = place + 4 ≤ length s
+Inside s (Samples l number) = InsideList s l number
+
+-- a curve's record, by the cases of the code's enum
+abbrev pub recordMeans : ScalarRecord → Recorded Float
+recordMeans ScalarRecord.None = noCurve
+recordMeans (ScalarRecord.Constant v) = always v
+recordMeans (ScalarRecord.List l) = listed (listMeans l) (l .length)

@@ -1,0 +1,16 @@
+-- The lines of a section, from what the code finds in it. Assumes nothing.
+use Prim.Native.Nat.{ℕ}
+use mathlib.Core.List.{List}
+use Rattle.util.specs.Reader.{Reader, done, bind, Outcome, accepted}
+use Rattle.info_block.specs.declared.InfoBlock.{InfoBlock}
+use Rattle.info_block.specs.InfoBlockCode.{blockAt}
+use Rattle.nitro.specs.Container.{Kind, section}
+use Rattle.listing.specs.Listing.{Header}
+
+-- a section whose info block is whole
+abbrev pub blockOutcome : List ℕ → Kind → InfoBlock → Outcome Header
+blockOutcome s k b = accepted (b .end) (record { kind = k; block = blockAt s 4 b })
+
+-- the header of a section, after its stamp
+abbrev pub headerFrom : Kind → Reader Header
+headerFrom k = bind section (λ b. done (record { kind = k; block = b }))

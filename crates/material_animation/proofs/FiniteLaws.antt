@@ -1,0 +1,59 @@
+-- What a material animation's readers give is so large at most that no entry of a matrix is a NaN or an infinity. Assumes nothing.
+use Prim.Native.Nat.{ℕ, _*_, _<_}
+use mathlib.Core.List.{List}
+use mathlib.Core.Path.{_≡_}
+use lib.Dec.{lit≤}
+use lib.ListN.{length, take, drop, getD}
+use lib.Ieee.{Float}
+use Rattle.util.specs.Fixed.{fix1-10-5}
+use Rattle.util.specs.View.{wordAt}
+use Rattle.util.specs.Reader.{done, accepted, run, each}
+use Rattle.util.proofs.All.{Bytes, bytes-drop, bytes-take, word-lt, Each, each-at, each-getD, each-of, each-map, Many, view-many, All, all-run, all-cond, all-bind, all-after, all-each}
+use Rattle.util.proofs.BelowLaws.{Small, Mixed, below-zero}
+use Rattle.matrix.specs.Finite.{FiniteMat}
+use Rattle.matrix.specs.Matrix.{f0}
+use Rattle.matrix.proofs.MagnitudeLaws.{translation-below, below-mat}
+use Rattle.info_block.proofs.BytesLaws.{datums-all}
+use Rattle.curve.specs.Curve.{Curve, none, mix, sampleAt}
+use Rattle.curve.proofs.MagnitudeLaws.{SizedCurve, scalar-sized, number-small, sized}
+use Rattle.material_animation.specs.MaterialAnimation.{MaterialAnimation, channelList, carries, channel, channelNumbers, materialAnimation, uvMatrixAt}
+
+-- the channelNumbers channels of a track
+abbrev pub SizedTrack : List (Curve Float) → Type 0
+SizedTrack = Many (SizedCurve Small) 5
+
+pub uv-finite : (channels : List (Curve Float)) → SizedTrack channels → (frame : ℕ) → FiniteMat (uvMatrixAt channels frame)
+unfolding uvMatrixAt
+uv-finite channels h frame = below-mat (translation-below (at 3) (at 4) below-zero)
+  where
+    at : (n : ℕ) → Mixed (sampleAt mix f0 (getD channels n none) frame)
+    at n = scalar-sized f0 below-zero (getD channels n none) (each-getD (SizedCurve Small) channels none (h .1) tt n) frame
+
+channel-list-all : (frames off : ℕ) → frames < 65536 → All (SizedCurve Small) (channelList frames off)
+unfolding channelList
+channel-list-all frames off l = all-bind (Many Small frames) _ _ _ (view-many Small _ _ (λ bs _. number-small fix1-10-5 (lit≤ tt) bs) _) λ vs h. sized vs l l h
+
+channel-all : (track : List ℕ) → Bytes track → (n : ℕ) → All (SizedCurve Small) (channel track n)
+unfolding channel
+channel-all track h n =
+    let datum = take 8 (drop (8 * n) track) in
+    let l : wordAt 2 datum 0 < 65536 = word-lt 2 datum 0 (bytes-take 8 (drop (8 * n) track) (bytes-drop (8 * n) track h)) in
+    all-cond _ (carries n (wordAt 1 datum 3)) (channelList (wordAt 2 datum 0) (wordAt 4 datum 4)) (done none) (channel-list-all _ _ l) tt
+
+abbrev pub SizedMaterial : MaterialAnimation → Type 0
+SizedMaterial a = Each SizedTrack (a .tracks)
+
+pub material-all : All SizedMaterial materialAnimation
+unfolding materialAnimation
+material-all =
+    all-after _ _ _ λ _.
+    all-after _ _ _ λ frames.
+    all-after _ _ _ λ _.
+    all-bind (λ block. Each Bytes (block .datums)) _ _ _ (datums-all _ _) λ block h.
+    let tracks-all = each-map Bytes (λ track. All SizedTrack (each (channel track) channelNumbers)) (λ track b. all-each _ _ channelNumbers (each-of _ (channel-all track b) channelNumbers)) (block .datums) h in
+    all-bind (Many SizedTrack (length (block .datums))) _ _ _ (all-each _ _ (block .datums) tracks-all) λ tracks k. k .1
+
+-- no entry of a sampled matrix is a NaN or an infinity, whatever bytes are read
+pub material-finite : (s : List ℕ) → Bytes s → (m m' : ℕ) (a : MaterialAnimation) → run materialAnimation s m ≡ accepted m' a
+    → (i : ℕ) → i < length (a .tracks) → (d : List (Curve Float)) (frame : ℕ) → FiniteMat (uvMatrixAt (getD (a .tracks) i d) frame)
+material-finite s b m m' a e i l d frame = uv-finite _ (each-at SizedTrack (a .tracks) d (all-run SizedMaterial materialAnimation material-all s b m m' a e) i l) frame

@@ -1,0 +1,77 @@
+//! Where the lists of an accepted entry stand, and the bytes of each value: a reading of the bytes by document 01's layout, beside the Rust,
+//! which keeps neither.
+
+fn word16(s: &[u8], p: usize) -> usize {
+    u16::from_le_bytes([s[p], s[p + 1]]) as usize
+}
+
+fn word32(s: &[u8], p: usize) -> usize {
+    u32::from_le_bytes([s[p], s[p + 1], s[p + 2], s[p + 3]]) as usize
+}
+
+fn bits(x: usize, from: usize, to: usize) -> usize {
+    x >> from & ((1 << (to - from + 1)) - 1)
+}
+
+/// A datum of the info block at `p`: the zero byte, the count, three u16 and a u32, a u32 for each, the datums' size and a u16 come first.
+fn datum(s: &[u8], p: usize, size: usize, i: usize) -> usize {
+    p + 12 + 4 * s[p + 1] as usize + 4 + size * i
+}
+
+/// An entry's own place: its offset is a datum of the section's info block.
+pub fn entry(s: &[u8], i: usize) -> usize {
+    word32(s, datum(s, 8, 4, i))
+}
+
+/// A list's place in the section, and the bytes of each value; none for a constant or no curve.
+pub type List = Option<(usize, usize)>;
+
+/// The curves of a JNT0 object: three of its translation, the rotation, three of its scale.
+pub fn object(s: &[u8], i: usize, o: usize) -> [List; 7] {
+    let e = entry(s, i);
+    let p = e + word16(s, e + 20 + 2 * o);
+    let flags = word16(s, p);
+    let mut at = p + 4;
+    let mut lists = [None; 7];
+    for (k, list) in lists.iter_mut().enumerate() {
+        let (left_out, constant, numbers) = match k {
+            0..=2 => (bits(flags, 1, 2), 3 + k, 1),
+            3 => (bits(flags, 6, 7), 8, 1),
+            _ => (bits(flags, 9, 10), 11 + k - 4, 2),
+        };
+        if bits(flags, 0, 0) == 1 || left_out != 0 {
+            continue;
+        }
+        if bits(flags, constant, constant) == 1 {
+            at += 4 * numbers;
+            continue;
+        }
+        let size = if k == 3 || bits(word32(s, at), 28, 29) != 0 { 2 } else { 4 };
+        *list = Some((e + word32(s, at + 4), numbers * size));
+        at += 8;
+    }
+    lists
+}
+
+/// A channel of an SRT0 track that carries a list.
+pub fn channel(s: &[u8], i: usize, track: usize, channel: usize) -> (usize, usize) {
+    let e = entry(s, i);
+    (e + word32(s, datum(s, e + 8, 40, track) + 8 * channel + 4), 2)
+}
+
+/// The texture names of a PAT0 entry.
+pub fn textures(s: &[u8], i: usize) -> usize {
+    let e = entry(s, i);
+    e + word16(s, e + 8)
+}
+
+pub fn palettes(s: &[u8], i: usize) -> usize {
+    let e = entry(s, i);
+    e + word16(s, e + 10)
+}
+
+/// The keys of a PAT0 track.
+pub fn keys(s: &[u8], i: usize, track: usize) -> usize {
+    let e = entry(s, i);
+    e + word16(s, datum(s, e + 12, 8, track) + 6)
+}
