@@ -1,6 +1,7 @@
 // Curves as they stand in a section, and a curve's value between two of its values.
 use matrix::Col3;
 use matrix::Mat3;
+use std::num::wrapping_sub_u64;
 use util::fixed::Fix1_3_12;
 use util::fixed::Fix1_10_5;
 use util::fixed::Fix1_19_12;
@@ -26,11 +27,11 @@ pub enum Number {
 // A list of values: its frames, where it stands, how many values it has, and the bytes of each. Its record has the same fields; there the
 // place counts from the section's start.
 pub struct SampleList {
-    pub start: u16,
-    pub end: u16,
     pub place: usize,
     pub length: usize,
     pub size: usize,
+    pub start: u16,
+    pub end: u16,
 }
 
 // A constant is where its number stands.
@@ -92,7 +93,8 @@ pub fn locate(start: u16, end: u16, frame: u16, n: u64) -> Spot
     requires { ⌜ (start < frame) × (frame + 1 < end) × (1 ≤ n) × (n ≤ 65536) ⌝ }
     ensures { λ r. ⌜ (r ≡ spotAt (index start end frame n)) × (r .lo ≤ r .hi) × (r .hi < n) ⌝ }
 {
-    let a = frame as u64 - start as u64;
+    // it never wraps; the compiler then takes a conversion that does not wait for the sample before
+    let a = wrapping_sub_u64(frame as u64, start as u64);
     let b = end as u64 - 1 - start as u64;
     let i = (a as f64) / (b as f64) * ((n - 1) as f64);
     let lo = floor(i);

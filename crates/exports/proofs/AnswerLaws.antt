@@ -1,51 +1,24 @@
--- The bytes of a matrix and the words of a name, from what the calls of crate motion answer. Assumes nothing.
-use Prim.Native.Nat.{ℕ, _^_, _≤_, _<_}
+-- The bytes of a matrix, from what the call of crate motion answers. Assumes nothing.
+use Prim.Native.Nat.{ℕ, _≤_, _<_}
 use mathlib.Core.Bool.{Bool, true, false}
-use mathlib.Core.List.{List, _∷_, _++_}
-use mathlib.Core.Path.{_≡_, refl, sym, ap, subst, _∙_}
+use mathlib.Core.List.{List}
+use mathlib.Core.Path.{_≡_, refl, sym, ap, _∙_}
 use native.Mathlib.Omega.{arith}
 use borrow.Author.Tests.{le-leb, lt-leb, ltb-true}
 use lib.Dec.{ltb, leb}
-use lib.ListN.{length, take, drop, getD}
-use lib.Seq.{sets, take-at, drop-at, take-all}
-use Rattle.util.specs.View.{little, littleBytes, wordAt}
+use lib.ListN.{length, getD}
+use lib.Seq.{sets}
 use Rattle.util.specs.Reader.{Outcome, accepted, refused, run, Verdict, answered, denied, given, tell, told}
 use Rattle.util.proofs.All.{Bytes, All, all-run, all-bind, all-after}
 use Rattle.util.proofs.Calls.{after, run-bind}
-use Rattle.util.proofs.ViewLaws.{length-little, little-little}
 use Rattle.matrix.specs.declared.Mat4.{Mat4}
 use Rattle.matrix.specs.Matrix.{bytesOf}
 use Rattle.matrix.specs.Finite.{FiniteMat}
 use Rattle.animation.specs.Animation.{stillObject, matrixAt}
 use Rattle.animation.proofs.FiniteLaws.{SizedAnimation, objects-finite}
-use Rattle.info_block.specs.declared.name.Name.{Name as CodeName}
-use Rattle.info_block.specs.NameCode.{nameMeans}
 use Rattle.nitro.specs.Container.{jnt, Entry, entryOf}
 use Rattle.nitro.proofs.FiniteLaws.{entry-all}
-use Rattle.exports.specs.Words.{Writes}
-use Rattle.motion.specs.Calls.{ofObject, matrix, matrixBytes, askObject, ask, on, reader, answer}
-
--- ---- a name's words
-
-name-lo : (n : CodeName) → n .lo < 2 ^ 64 → wordAt 8 (nameMeans n) 0 ≡ n .lo
-name-lo n h = ap little (take-at (littleBytes 8 (n .lo)) (littleBytes 8 (n .hi)) 8 (length-little 8 (n .lo))) ∙ little-little 8 (n .lo) h
-
-name-hi : (n : CodeName) → n .hi < 2 ^ 64 → wordAt 8 (nameMeans n) 8 ≡ n .hi
-name-hi n h =
-    ap (λ (l : List ℕ). little (take 8 l)) (drop-at (littleBytes 8 (n .lo)) (littleBytes 8 (n .hi)) 8 (length-little 8 (n .lo)))
-    ∙ (ap little (take-all 8 (littleBytes 8 (n .hi)) (rw (length-little 8 (n .hi)) (omega arith))) ∙ little-little 8 (n .hi) h)
-
-pub name-words : (n : CodeName) → n .lo < 2 ^ 64 → n .hi < 2 ^ 64 → (before rest : List ℕ)
-    → sets before 0 (n .lo ∷ n .hi ∷ rest) ≡ sets before 0 (wordAt 8 (nameMeans n) 0 ∷ wordAt 8 (nameMeans n) 8 ∷ rest)
-name-words n h l before rest =
-    ap (λ (x : ℕ). sets before 0 (x ∷ n .hi ∷ rest)) (sym (name-lo n h)) ∙ ap (λ (x : ℕ). sets before 0 (wordAt 8 (nameMeans n) 0 ∷ x ∷ rest)) (sym (name-hi n l))
-
--- ---- a verdict that is another's
-
-pub written-as : {A T : Type 0} {items : A → List T} {v v' : Verdict A} {r : ℕ} {before after : List T} → v ≡ v' → Writes items v r before after → Writes items v' r before after
-written-as {items} {r} {before} {after} e w = subst (λ x. Writes items x r before after) e w
-
--- ---- a matrix's bytes
+use Rattle.calls.specs.Calls.{ofObject, matrix, matrixBytes, askObject, ask, on, reader, answer}
 
 accepted-of : {A : Type 0} (o : Outcome A) (a : A) → answered a ≡ told o → (m : ℕ) × (o ≡ accepted m a)
 accepted-of (accepted m b) a e = (m, cc)

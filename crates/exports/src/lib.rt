@@ -1,27 +1,22 @@
 // The calls for programs in C and Rust. A slice is passed as a pointer and a length, an array as a pointer. Each call answers document 01's
 // number, 0 where it accepts, and then writes its answer into the arrays that it is lent; a refused call leaves them as they were.
-mod put;
-
 use animation::Triple;
-use listing::ROOM;
-use listing::section::list_section;
+use calls::MatrixAnswer;
+use listing::list_section;
 use matrix::put_matrix;
-use motion::answers::MatrixAnswer;
 use motion::check;
 use motion::find;
-use motion::jnt;
-use motion::pat;
-use motion::srt;
 use nitro::entry::EntryCheck;
-use put::put_choice;
-use put::put_curve;
-use put::put_found;
-use put::put_list;
-use put::put_name;
-use put::put_record;
-use put::put_resampling;
-use put::put_rotation;
-use put::put_sixteen;
+use text::ROOM;
+use words::put_choice;
+use words::put_curve;
+use words::put_found;
+use words::put_list;
+use words::put_name;
+use words::put_record;
+use words::put_resampling;
+use words::put_rotation;
+use words::put_sixteen;
 ghost use mathlib.Core.Path.{_≡_};
 ghost use lib.ListN.{length};
 ghost use lib.Seq.{sets};
@@ -29,11 +24,11 @@ ghost use Rattle.util.specs.Reader.{told, number};
 ghost use Rattle.animation.specs.Animation.{translation, scale};
 ghost use Rattle.gltf.specs.Curve.{sliceOf};
 ghost use Rattle.nitro.specs.Container.{jnt, srt, pat};
-ghost use Rattle.motion.specs.Calls.{answer, on, ofObject, matrixBytes, curve, rotationCurve, resampled, ofMaterial, uvMatrix, channelCurve, materialName, ofPattern, chosen, textureNames, paletteNames, patternName, bytesAfter};
-ghost use Rattle.motion.specs.Calls as calls;
+ghost use Rattle.calls.specs.Calls.{answer, on, ofObject, matrixBytes, curve, rotationCurve, resampled, ofMaterial, uvMatrix, channelCurve, materialName, ofPattern, chosen, textureNames, paletteNames, patternName, bytesAfter};
+ghost use Rattle.calls.specs.Calls as calls;
 ghost use Rattle.listing.specs.Listing.{listing};
-ghost use Rattle.exports.specs.WordsCode.{FoundExported};
-ghost use Rattle.exports.specs.Words.{Writes, nameWords, checked, recordWords, curveWords, curveFloats, oneFloat, nineFloats, sixteenFloats, listedWords, chosenWords, resampledWords};
+ghost use Rattle.words.specs.WordsCode.{FoundExported};
+ghost use Rattle.words.specs.Words.{Writes, nameWords, checked, recordWords, curveWords, curveFloats, oneFloat, nineFloats, sixteenFloats, listedWords, chosenWords, resampledWords};
 
 // Whether an entry is whole: the number of its check.
 #[no_mangle]

@@ -1,2 +1,1 @@
-pub mod WritesLaws
 pub mod SectionLaws

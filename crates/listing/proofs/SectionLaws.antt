@@ -18,11 +18,12 @@ use Rattle.info_block.specs.declared.BlockRead.{BlockRead}
 use Rattle.info_block.specs.Name.{Name}
 use Rattle.nitro.specs.Container.{Kind, allKinds, stamped, section, EntryRecord}
 use Rattle.nitro.specs.ContainerCode.{HeaderReads}
-use Rattle.motion.specs.Calls.{check, answer}
-use Rattle.listing.specs.Listing.{decimal, hex, line, outcomeLines, entryLines, entriesFrom, header, sectionLines, listing}
-use Rattle.listing.specs.Writes.{Wrote, entryRoom}
-use Rattle.listing.specs.SectionCode.{blockOutcome, headerFrom}
-use Rattle.listing.proofs.WritesLaws.{both, same}
+use Rattle.calls.specs.Calls.{check, answer}
+use Rattle.text.specs.Text.{decimal, hex, line}
+use Rattle.listing.specs.Listing.{outcomeLines, entryLines, entriesFrom, header, sectionLines, listing}
+use Rattle.text.specs.Writes.{Wrote}
+use Rattle.listing.specs.SectionCode.{blockOutcome, headerFrom, entryRoom}
+use Rattle.text.proofs.WritesLaws.{both, same}
 
 -- ---- an entry
 

@@ -1,6 +1,5 @@
 -- What the program motion-list prints. Assumes nothing.
-use Prim.Native.Char.{code}
-use Prim.Native.Nat.{ℕ, zero, suc, _+_, _/_, _%_}
+use Prim.Native.Nat.{ℕ, suc}
 use Prim.Native.String.{String}
 use mathlib.Core.Bool.{cond}
 use mathlib.Core.List.{List, [], _∷_, _++_}
@@ -11,45 +10,10 @@ use Rattle.util.specs.Reader.{Reader, done, bind, Outcome, accepted, refused, r
 use Rattle.info_block.specs.InfoBlock.{Block}
 use Rattle.info_block.specs.Name.{Name}
 use Rattle.nitro.specs.Container.{Kind, jnt, srt, pat, allKinds, stamped, section, EntryRecord}
-use Rattle.motion.specs.Calls.{check, answer}
-use Rattle.motion.specs.Evaluate.{evaluate}
-use Rattle.motion.specs.Pinned.{walk}
-
-abbrev pub ascii : String → List ℕ
-ascii String.[] = []
-ascii (String._∷_ c t) = code c ∷ ascii t
-
--- ---- numbers
-
-abbrev pub digit : ℕ → ℕ
-digit n = 48 + n % 10
-
--- the last `width` decimal digits, with leading zeros
-unfoldable pub digits : ℕ → ℕ → List ℕ
-digits zero n = []
-digits (suc width) n = digits width (n / 10) ++ (digit n ∷ [])
-
--- how many decimal digits a number has, at most `most`
-unfoldable pub places : ℕ → ℕ → ℕ
-places zero n = 0
-places (suc most) n = cond (ltb n 10) 1 (suc (places most (n / 10)))
-
--- twenty digits hold every number of 64 bits
-abbrev pub decimal : ℕ → List ℕ
-decimal n = digits (places 20 n) n
-
--- lower case
-abbrev pub hexDigit : ℕ → ℕ
-hexDigit n = cond (ltb n 10) (48 + n) (87 + n)
-
-unfoldable pub hex : List ℕ → List ℕ
-hex [] = []
-hex (b ∷ bs) = hexDigit (b / 16) ∷ hexDigit (b % 16) ∷ hex bs
-
--- ---- lines
-
-abbrev pub line : String → List ℕ → List ℕ
-line key value = ascii key ++ (61 ∷ value) ++ (10 ∷ [])
+use Rattle.calls.specs.Calls.{check, answer}
+use Rattle.calls.specs.Evaluate.{evaluate}
+use Rattle.calls.specs.Pinned.{walk}
+use Rattle.text.specs.Text.{ascii, digits, places, decimal, hex, line}
 
 abbrev pub stampText : Kind → String
 stampText jnt = "JNT0"

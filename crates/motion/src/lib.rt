@@ -1,10 +1,5 @@
 // The public calls: each answers every section, every index and every name, and none asks anything of its caller.
-pub mod answers;
-pub mod jnt;
-mod opened;
-pub mod pat;
-pub mod srt;
-
+use calls::Found;
 use info_block::BlockRead;
 use info_block::name::NameFound;
 use info_block::name::find_name;
@@ -15,9 +10,9 @@ use nitro::entry::EntryCheck;
 use nitro::entry::check_entry;
 ghost use mathlib.Core.Path.{_≡_};
 ghost use Rattle.nitro.specs.EntryCode.{checkMeans};
-ghost use Rattle.motion.specs.Calls.{answer};
-ghost use Rattle.motion.specs.Calls as calls;
-ghost use Rattle.motion.specs.FindingCode.{Finds};
+ghost use Rattle.calls.specs.Calls.{answer};
+ghost use Rattle.calls.specs.Calls as calls;
+ghost use Rattle.calls.specs.FindingCode.{Finds};
 
 // The entry check: the number, or the record.
 pub fn check(s: &[u8], entry: usize) -> EntryCheck
@@ -27,12 +22,6 @@ pub fn check(s: &[u8], entry: usize) -> EntryCheck
         StampRead::Refused(n) => EntryCheck::Refused(n),
         StampRead::Whole(kind) => check_entry(s, kind, entry),
     }
-}
-
-pub enum Found {
-    At(usize),
-    Nothing,
-    Refused(u8),
 }
 
 // An entry with this name: its index. Which of several is free; none is answered exactly if there is none.

@@ -1,8 +1,8 @@
 // Lists the section that standard input holds. A byte past the 65,536 that a section may have is read, to see that it is too long.
 use libc::STDIN_FILENO;
 use libc::STDOUT_FILENO;
-use listing::ROOM;
-use listing::section::list_section;
+use listing::list_section;
+use text::ROOM;
 
 fn main() {
     let mut section = [0u8; 65537];

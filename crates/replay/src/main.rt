@@ -4,11 +4,11 @@
 // The list is how many calls there are, in two bytes; each call in 32 bytes: its code, entry, object or track, axis or channel, the frame in
 // two bytes, the place and the room of a lent slice, a name of sixteen bytes, the section's place in the list and its length, four bytes
 // each; and then the sections.
-mod calls;
 mod print;
+mod stored;
 
-use calls::run;
 use libc::STDIN_FILENO;
+use stored::run;
 use util::view::word16;
 use util::view::word32;
 

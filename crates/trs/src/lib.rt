@@ -6,6 +6,8 @@ use animation::Referred;
 use animation::RotationCurve;
 use animation::TRSCurves;
 use animation::Tables;
+use animation::Triple;
+use animation::curves_of;
 use animation::read_object;
 use animation::refer;
 use animation::still_curves;
@@ -35,7 +37,7 @@ ghost use Rattle.matrix.specs.declared.Mat3 as mat3;
 ghost use Rattle.matrix.specs.Matrix.{identity3};
 ghost use Rattle.animation.specs.Animation.{pivotOf, basisOf, axesAt, matrixAt};
 ghost use Rattle.animation.specs.AnimationCode.{WholeAnimation, matrixFor, referenceEnd, references, rotationCurve, axisCurves, objectCurves, InsideAxes, InsideReferences, InsideRotation, InsideObject};
-ghost use Rattle.trs.specs.TrsCode.{ObjectStands, curveMeans, rotationRecordMeans, recordedAxis};
+ghost use Rattle.trs.specs.TrsCode.{ObjectStands, TripleStands, curveMeans, rotationRecordMeans, recordedAxis};
 
 // The curves of object o of a whole entry.
 pub fn object_at(s: &[u8], a: Animation, o: usize) -> TRSCurves
@@ -46,6 +48,14 @@ pub fn object_at(s: &[u8], a: Animation, o: usize) -> TRSCurves
         ObjectRead::Whole(c, _) => c,
         ObjectRead::Refused(_) => still_curves(),
     }
+}
+
+// Its translation or its scale alone.
+pub fn triple_at(s: &[u8], a: Animation, o: usize, which: Triple) -> AxisCurves
+    requires { ⌜ WholeAnimation (now s) a × (o < a .objects) ⌝ }
+    ensures { λ r. ⌜ TripleStands (now (s .entry)) o which r ⌝ }
+{
+    curves_of(which, object_at(s, a, o))
 }
 
 pub enum CurveRecord {

@@ -2,7 +2,7 @@
 use Prim.Native.Nat.{ℕ}
 use mathlib.Core.Path.{refl, sym, ap, _∙_}
 use native.Mathlib.Omega.{arith}
-use Rattle.motion.specs.AnswersCode.{matrixAnswerMeans}
+use Rattle.calls.specs.AnswersCode.{matrixAnswerMeans}
 use Rattle.exports.proofs.AnswerLaws.{bytes-refused, bytes-small, bytes-whole, answer-finite}
 use borrow.Author.Needs.{needs}
 use Rattle.exports.proofs.motion_matrix.Statement.{statement}

@@ -1,5 +1,5 @@
 -- `exports::motion_resample_scale` meets its contract. Assumes nothing.
-use Rattle.exports.proofs.AnswerLaws.{written-as}
+use Rattle.words.proofs.WordsLaws.{written-as}
 use borrow.Author.Needs.{needs}
 use Rattle.exports.proofs.motion_resample_scale.Statement.{statement}
 use Rattle.exports.proofs.motion_resample_scale.Tie as tie

@@ -2,7 +2,7 @@
 use mathlib.Core.Path.{sym, ap, _∙_}
 use Rattle.nitro.specs.ContainerCode.{kindMeans, stampMeans}
 use Rattle.nitro.proofs.ContainerLaws.{stamp-of}
-use Rattle.motion.proofs.CallsLaws.{check-unstamped, check-stamped}
+use Rattle.calls.proofs.CallsLaws.{check-unstamped, check-stamped}
 use borrow.Author.Needs.{needs}
 use Rattle.motion.proofs.check.Statement.{statement}
 use Rattle.motion.proofs.check.Tie as tie

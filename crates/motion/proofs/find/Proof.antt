@@ -6,7 +6,7 @@ use Rattle.info_block.specs.Name.{named}
 use Rattle.nitro.specs.ContainerCode.{kindMeans, stampMeans}
 use Rattle.info_block.specs.NameCode.{FoundIn}
 use Rattle.nitro.proofs.ContainerLaws.{stamp-of}
-use Rattle.motion.proofs.CallsLaws.{find-unstamped, find-headless, find-named, found-no, found-yes, found-none}
+use Rattle.calls.proofs.CallsLaws.{find-unstamped, find-headless, find-named, found-no, found-yes, found-none}
 use Rattle.util.proofs.ReadsLaws.{known}
 use borrow.Author.Needs.{needs}
 use Rattle.motion.proofs.find.Statement.{statement}

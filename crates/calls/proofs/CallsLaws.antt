@@ -1,0 +1,88 @@
+-- A call's answer, from what its steps found. Assumes nothing.
+use Prim.Native.Nat.{ℕ, _+_, _-_, _*_, _≤_}
+use mathlib.Core.List.{List, []}
+use mathlib.Core.Path.{_≡_, refl, sym, ap, subst, _∙_}
+use native.Mathlib.Omega.{arith}
+use lib.ListN.{length, take, drop, length-drop}
+use Rattle.util.specs.Reader.{done, Outcome, accepted, refused, run, bind, Verdict, answered, denied, tell, told}
+use Rattle.util.proofs.ReadsLaws.{goes-on, stops}
+use Rattle.info_block.specs.declared.InfoBlock.{InfoBlock}
+use Rattle.info_block.specs.Name.{Name, named}
+use Rattle.info_block.specs.InfoBlock.{Block}
+use Rattle.info_block.specs.InfoBlockCode.{InsideBlock}
+use Rattle.info_block.specs.NameCode.{OneOf}
+use Rattle.nitro.specs.declared.container.EntryAt.{EntryAt}
+use Rattle.nitro.specs.declared.container.EntryFound.{EntryFound}
+use Rattle.nitro.specs.Container.{Kind, allKinds, stamped, section, Value, value, Entry, entry, recordOf, entryOf}
+use Rattle.nitro.specs.ContainerCode.{entryFrom}
+use Rattle.nitro.specs.EntryCode.{OpenReads}
+use Rattle.calls.specs.declared.Found.{Found}
+use Rattle.calls.specs.FindingCode.{Finds}
+use Rattle.calls.specs.Calls.{Query, Reply, ask, check, find, on, reader, answer}
+
+-- ---- calls that take all kinds
+
+module _ (s : List ℕ) (i : ℕ) where
+  pub check-unstamped : (n : ℕ) → run (stamped allKinds) s 0 ≡ refused n → answer (check i) s ≡ refused n
+  unfolding answer reader
+  check-unstamped n e = stops _ _ _ _ n e
+
+  pub check-stamped : (k : Kind) → run (stamped allKinds) s 0 ≡ accepted 4 k → answer (check i) s ≡ run (bind (entry k i) (λ x. done (recordOf k x))) s 4
+  unfolding answer reader
+  check-stamped k e = goes-on _ _ _ _ 4 k e
+
+-- ---- calls on an entry
+
+said : {A : Type 0} (v : Verdict A) (s : List ℕ) (m : ℕ) → told (run (tell v) s m) ≡ v
+unfolding run
+said (answered a) s m = refl
+said (denied n) s m = refl
+
+module _ (k : Kind) (s : List ℕ) (i : ℕ) (q : Query k) where
+  pub entry-denied : (n : ℕ) → run (entryOf k i) s 0 ≡ refused n → told (answer (on k i q) s) ≡ denied n
+  unfolding answer reader
+  entry-denied n e = ap told (stops _ _ _ _ n e)
+
+  -- an entry that is opened and holds v
+  pub asked : (e : EntryAt) → OpenReads k s i (EntryFound.At e) → (m : ℕ) (v : Value k) → run (value k) (drop (e .offset) s) 0 ≡ accepted m v
+      → told (answer (on k i q) s) ≡ ask q (record { name = take 16 (drop (e .name) s); offset = e .offset; held = v })
+  unfolding answer reader
+  asked e w m v h = ap told (goes-on _ _ _ _ _ _ (w .reads ∙ ap (entryFrom k s e) h)) ∙ said (ask q (record { name = take 16 (drop (e .name) s); offset = e .offset; held = v })) s _
+
+-- the names of an entry's info block stand in the section
+pub names-end : (s : List ℕ) (off p size : ℕ) (b : InfoBlock) → off ≤ length s → InsideBlock (drop off s) p size b → off + (b .names + 16 * b .count) ≤ length s
+names-end s off p size b h w =
+    let n = w .names-end in
+    let i = w .inside in
+    omega (arith, length-drop off s)
+
+-- what stands from an offset on ends with the section
+pub onward-end : (s : List ℕ) (off : ℕ) → off ≤ length s → off + length (drop off s) ≡ length s
+onward-end s off h = let l = length-drop off s in omega arith
+
+-- ---- finding
+
+module _ (s : List ℕ) (name : Name) where
+  pub find-unstamped : (n : ℕ) → run (stamped allKinds) s 0 ≡ refused n → answer (find name) s ≡ refused n
+  unfolding answer reader
+  find-unstamped n e = stops _ _ _ _ n e
+
+  module _ (k : Kind) (e : run (stamped allKinds) s 0 ≡ accepted 4 k) where
+    pub find-headless : (n : ℕ) → run section s 4 ≡ refused n → answer (find name) s ≡ refused n
+    unfolding answer reader
+    find-headless n q = goes-on _ _ _ _ 4 k e ∙ stops _ _ _ _ n q
+
+    pub find-named : (m : ℕ) (b : Block) → run section s 4 ≡ accepted m b → answer (find name) s ≡ accepted m (named name 0 (b .names))
+    unfolding answer reader run
+    find-named m b q = goes-on _ _ _ _ 4 k e ∙ goes-on _ _ _ _ m b q
+
+-- the answer, by its case
+module _ (name : Name) (s : List ℕ) where
+  pub found-no : (n : ℕ) → answer (find name) s ≡ refused n → Finds (answer (find name) s) (Found.Refused n)
+  found-no n e = subst (λ (o : Outcome (List ℕ)). Finds o (Found.Refused n)) (sym e) refl
+
+  pub found-yes : (m : ℕ) (is : List ℕ) → answer (find name) s ≡ accepted m is → (j : ℕ) → OneOf j is → Finds (answer (find name) s) (Found.At j)
+  found-yes m is e j h = subst (λ (o : Outcome (List ℕ)). Finds o (Found.At j)) (sym e) h
+
+  pub found-none : (m : ℕ) (is : List ℕ) → answer (find name) s ≡ accepted m is → is ≡ [] → Finds (answer (find name) s) Found.Nothing
+  found-none m is e h = subst (λ (o : Outcome (List ℕ)). Finds o Found.Nothing) (sym e) h

@@ -1,0 +1,22 @@
+-- What the answers of the calls stand for, case by case: document 01's number and values. Assumes nothing.
+use Rattle.util.specs.Reader.{Verdict, answered, denied}
+use Rattle.matrix.specs.declared.Mat4.{Mat4}
+use Rattle.calls.specs.declared.ListAnswer.{ListAnswer}
+use Rattle.calls.specs.declared.ChoiceAnswer.{ChoiceAnswer}
+use Rattle.calls.specs.declared.MatrixAnswer.{MatrixAnswer}
+use Rattle.calls.specs.Calls.{Listed, Chosen}
+
+-- where a list stands, or the number
+abbrev pub listAnswerMeans : ListAnswer → Verdict Listed
+listAnswerMeans (ListAnswer.List l) = answered (record { place = l .place; length = l .length })
+listAnswerMeans (ListAnswer.Refused n) = denied n
+
+-- the indexes of a texture and of a palette, or the number
+abbrev pub choiceAnswerMeans : ChoiceAnswer → Verdict Chosen
+choiceAnswerMeans (ChoiceAnswer.Chosen texture palette) = answered (record { texture = texture .0; palette = palette .0 })
+choiceAnswerMeans (ChoiceAnswer.Refused n) = denied n
+
+-- a matrix, or the number
+abbrev pub matrixAnswerMeans : MatrixAnswer → Verdict Mat4
+matrixAnswerMeans (MatrixAnswer.Matrix m) = answered m
+matrixAnswerMeans (MatrixAnswer.Refused n) = denied n

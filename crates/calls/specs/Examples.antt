@@ -1,0 +1,148 @@
+-- Small sections, and what the calls answer on them. Assumes nothing.
+use Prim.Native.Nat.{ℕ, _+_, _*_}
+use mathlib.Core.Bool.{false}
+use mathlib.Core.List.{List, [], _∷_, _++_}
+use mathlib.Core.Path.{_≡_, refl}
+use lib.IntN.{negsuc}
+use lib.ListN.{take, replicate}
+use lib.Ieee.{Float, fin, neg}
+use Rattle.util.specs.View.{littleBytes}
+use Rattle.util.specs.Reader.{accepted, refused}
+use Rattle.matrix.specs.Matrix.{f0, f1, col4}
+use Rattle.curve.specs.Curve.{listed}
+use Rattle.animation.specs.Animation.{translation, scale}
+use Rattle.nitro.specs.Container.{jnt, srt, pat, stampOf, EntryRecord}
+use Rattle.gltf.specs.Curve.{noSpan, span}
+use Rattle.calls.specs.Calls.{check, on, ofObject, matrix, matrixBytes, curve, resampled, ofPattern, chosen, ofMaterial, channelCurve, answer}
+use Rattle.calls.specs.Evaluate.{evaluate}
+use Rattle.calls.specs.Pinned.{walk}
+
+-- ---- how the sections are put together
+
+abbrev u8 : ℕ → List ℕ
+u8 x = x ∷ []
+
+abbrev u16 : ℕ → List ℕ
+u16 x = littleBytes 2 x
+
+abbrev u32 : ℕ → List ℕ
+u32 x = littleBytes 4 x
+
+abbrev zeros : ℕ → List ℕ
+zeros n = replicate n 0
+
+-- an info block of n datums
+abbrev block : ℕ → ℕ → List ℕ → List ℕ → List ℕ
+block n size datums names = u8 0 ++ u8 n ++ zeros 10 ++ zeros (4 * n) ++ u16 size ++ u16 0 ++ datums ++ names
+
+-- ---- 1. Entries may stand anywhere, also inside the section's own info block
+
+-- two entries: the first stands in the names, from 40 to 60, and its bytes are its own name; the second points past the end
+abbrev nested : List ℕ
+nested = stampOf jnt ++ u32 0 ++ block 2 4 (u32 40 ++ u32 1000) ((0x4A ∷ 0x00 ∷ 0x41 ∷ 0x43 ∷ []) ++ u16 7 ++ zeros 26)
+
+-- its parts end at 60, and the info block at 72: the reach is 72. The refused neighbour changes nothing.
+pub inside-the-block :
+    (answer (check 0) nested ≡ accepted 72 (record { name = 0x4A ∷ 0x00 ∷ 0x41 ∷ 0x43 ∷ 7 ∷ zeros 11; frames = 7; count = 0 }))
+    × (answer (check 1) nested ≡ refused 2)
+    × (answer (check 2) nested ≡ refused 9)
+unfolding evaluate
+inside-the-block = (refl, refl, refl)
+
+-- ---- 2. Tests come at their place among the parts
+
+-- one object at 22, animated: the curve word of its x axis has start 3 and end 3, and nothing follows
+abbrev backwards : List ℕ
+backwards =
+    stampOf jnt ++ u32 0 ++ block 1 4 (u32 48) (zeros 16)
+    ++ (0x4A ∷ 0x00 ∷ 0x41 ∷ 0x43 ∷ []) ++ u16 5 ++ u16 1 ++ zeros 12 ++ u16 22
+    ++ u16 0 ++ u16 0 ++ u32 (3 + 3 * 0x1_0000)
+
+-- the test comes before the offset is read; and only once the word is whole
+pub word-before-offset : (answer (check 0) backwards ≡ refused 7) × (answer (check 0) (take 77 backwards) ≡ refused 2)
+unfolding evaluate
+word-before-offset = (refl, refl)
+
+-- ---- 3. An SRT0 entry of one track, whose u channel is a list of no frames at an offset; 132 bytes
+
+-- channels 0, 1, 2 are never followed, whatever their flags; channel 4 has other flags than 16
+abbrev pub scroll : ℕ → List ℕ
+scroll off =
+    stampOf srt ++ u32 0 ++ block 1 4 (u32 48) (zeros 16)
+    ++ zeros 4 ++ u16 0 ++ u16 0
+    ++ block 1 40 (u16 9 ++ u8 0 ++ u8 16 ++ u32 5000 ++ zeros 16 ++ u16 0 ++ u8 0 ++ u8 16 ++ u32 off ++ u16 9 ++ u8 0 ++ u8 17 ++ u32 5000) (zeros 16)
+
+abbrev pub scrollRecord : EntryRecord
+scrollRecord = record { name = zeros 16; frames = 0; count = 1 }
+
+-- the place counts from the section's start; a call that takes another stamp is refused before anything else is looked at
+pub its-channel :
+    (answer (on srt 0 (ofMaterial 0 (channelCurve 3))) (scroll 84) ≡ accepted 132 (listed (record { start = 0; end = 0; place = 132; size = 2 }) 0))
+    × (answer (on srt 0 (ofMaterial 0 (channelCurve 5))) (scroll 84) ≡ refused 9)
+    × (answer (on jnt 0 (ofObject 0 (resampled translation [] 0))) (take 4 (scroll 84)) ≡ refused 1)
+unfolding evaluate
+its-channel = (refl, refl, refl)
+
+-- ---- 4. A PAT0 entry of two tracks: one key, and none
+
+-- 1 texture name and 2 palette names, both lists at 88 of the entry
+abbrev blink : ℕ → ℕ → List ℕ
+blink texture palette =
+    stampOf pat ++ u32 0 ++ block 1 4 (u32 48) (zeros 16)
+    ++ zeros 4 ++ u16 10 ++ u8 1 ++ u8 2 ++ u16 88 ++ u16 88
+    ++ block 2 8 (u32 1 ++ u16 0 ++ u16 84 ++ u32 0 ++ u16 0 ++ u16 84) (zeros 32)
+    ++ u16 3 ++ u8 texture ++ u8 palette ++ zeros 32
+
+-- palette 1 is one of two palettes; texture 1 is none of one texture
+pub own-lists : (answer (on pat 0 (ofPattern 0 (chosen 0))) (blink 0 1) ≡ accepted 168 (record { texture = 0; palette = 1 })) × (answer (check 0) (blink 1 0) ≡ refused 8)
+unfolding evaluate
+own-lists = (refl, refl)
+
+-- a track with no keys is whole, and has nothing to choose from
+pub no-keys : answer (on pat 0 (ofPattern 1 (chosen 0))) (blink 0 1) ≡ refused 10
+unfolding evaluate
+no-keys = refl
+
+-- ---- 5. The 86 bytes resampled: the constants 1, -1 and 1/2, one frame, from place 1 on; all other elements stay
+
+abbrev fiveZeros : List Float
+fiveZeros = replicate 5 f0
+
+pub one-frame :
+    (answer (on jnt 0 (ofObject 0 (resampled translation fiveZeros 1))) walk ≡ accepted 86 (record { over = span 0 1; frames = 1; slice = f0 ∷ f1 ∷ neg f1 ∷ fin false 1 (negsuc 0) ∷ f0 ∷ [] }))
+    × (answer (on jnt 0 (ofObject 0 (resampled translation fiveZeros 3))) walk ≡ refused 11)
+unfolding evaluate
+one-frame = (refl, refl)
+
+-- three missing curves: none, zero frames, and the place is tested all the same
+pub nothing-to-scale :
+    (answer (on jnt 0 (ofObject 0 (resampled scale fiveZeros 5))) walk ≡ accepted 86 (record { over = noSpan; frames = 0; slice = fiveZeros }))
+    × (answer (on jnt 0 (ofObject 0 (resampled scale fiveZeros 6))) walk ≡ refused 11)
+unfolding evaluate
+nothing-to-scale = (refl, refl)
+
+-- ---- 6. A list without values: start 3, end 4, rate 1, at the end of the section; rotation and scale are left out, y and z constant
+
+abbrev still : List ℕ
+still =
+    stampOf jnt ++ u32 0 ++ block 1 4 (u32 48) (zeros 16)
+    ++ (0x4A ∷ 0x00 ∷ 0x41 ∷ 0x43 ∷ []) ++ u16 5 ++ u16 1 ++ zeros 12 ++ u16 22
+    ++ u16 0x270 ++ u16 0 ++ u32 (3 + 4 * 0x1_0000 + 0x4000_0000) ++ u32 42 ++ u32 0x1000 ++ u32 0x2000
+
+-- the entry is whole, and there is nothing to resample: 10 comes before 11
+pub nothing-to-sample :
+    (answer (on jnt 0 (ofObject 0 (curve translation 0))) still ≡ accepted 90 (listed (record { start = 3; end = 4; place = 90; size = 4 }) 0))
+    × (answer (on jnt 0 (ofObject 0 (resampled translation [] 1))) still ≡ refused 10)
+    × (answer (on jnt 1 (ofObject 0 (resampled translation [] 1))) still ≡ refused 9)
+unfolding evaluate
+nothing-to-sample = (refl, refl, refl)
+
+-- ---- 7. The matrix of the 86 bytes: the identity, with the translation in its fourth column
+
+pub its-matrix :
+    (answer (on jnt 0 (ofObject 0 (matrix 5))) walk
+    ≡ accepted 86 (record { c0 = col4 f1 f0 f0 f0; c1 = col4 f0 f1 f0 f0; c2 = col4 f0 f0 f1 f0; c3 = col4 f1 (neg f1) (fin false 1 (negsuc 0)) f1 }))
+    × (answer (on jnt 0 (ofObject 1 (matrix 5))) walk ≡ refused 9)
+    × (answer (on jnt 0 (ofObject 0 (matrixBytes 5 (zeros 127)))) walk ≡ refused 11)
+unfolding evaluate
+its-matrix = (refl, refl, refl)

@@ -1,5 +1,0 @@
-pub mod Demand3
-pub mod CallsLaws
-pub mod JntLaws
-pub mod PatLaws
-pub mod SrtLaws

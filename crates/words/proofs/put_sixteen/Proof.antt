@@ -1,0 +1,34 @@
+-- `words::put_sixteen` meets its contract. Assumes nothing.
+use mathlib.Core.Path.{refl}
+use borrow.Author.Needs.{needs}
+use Rattle.words.proofs.put_sixteen.Statement.{statement}
+use Rattle.words.proofs.put_sixteen.Tie as tie
+
+returns-2 : tie.Need-returns-2
+returns-2 c = rw (c .before .a2 .given .1) (record { number = refl; array = refl })
+
+pub put-sixteen-spec : {M : Type 1} → statement M
+put-sixteen-spec =
+    tie.close
+    (tie.spec
+    (λ c. search needs)
+    (λ c. search needs)
+    (λ c. search needs)
+    (λ c. search needs)
+    (λ c. search needs)
+    (λ c. search needs)
+    (λ c. search needs)
+    (λ c. search needs)
+    (λ c. search needs)
+    (λ c. search needs)
+    (λ c. search needs)
+    (λ c. search needs)
+    (λ c. search needs)
+    (λ c. search needs)
+    (λ c. search needs)
+    (λ c. search needs)
+    (λ c. search needs)
+    (λ c. search needs)
+    (λ c. search needs)
+    (λ c. search needs)
+    returns-2)

@@ -1,0 +1,241 @@
+// What each answer is written as: words into one array, floats into another, and its number.
+use calls::ChoiceAnswer;
+use calls::Found;
+use calls::ListAnswer;
+use calls::MatrixAnswer;
+use curve::SampleList;
+use curve::ScalarRecord;
+use gltf::Resampling;
+use info_block::name::NameAnswer;
+use matrix::Mat3;
+use nitro::entry::EntryCheck;
+use trs::CurveRecord;
+use trs::RotationAnswer;
+use trs::RotationRecord;
+ghost use mathlib.Core.Path.{_≡_};
+ghost use mathlib.Core.List.{List};
+ghost use lib.Ieee.{Float};
+ghost use lib.Seq.{sets};
+ghost use Rattle.curve.specs.Curve.{listed};
+ghost use Rattle.curve.specs.CurveCode.{listMeans, recordMeans};
+ghost use Rattle.info_block.specs.NameCode.{nameAnswerMeans};
+ghost use Rattle.trs.specs.TrsCode.{curveMeans, rotationRecordMeans, rotationAnswerMeans};
+ghost use Rattle.nitro.specs.EntryCode.{checkMeans};
+ghost use Rattle.gltf.specs.CurveCode.{resamplingMeans};
+ghost use Rattle.calls.specs.FindingCode.{foundMeans};
+ghost use Rattle.calls.specs.AnswersCode.{listAnswerMeans, choiceAnswerMeans, matrixAnswerMeans};
+ghost use Rattle.words.specs.Words.{Writes, nameWords, checked, recordWords, curveWords, curveFloats, oneFloat, nineFloats, sixteenFloats, listedWords, chosenWords, resampledWords, foundWords};
+
+// The record of an entry.
+pub fn put_record(c: EntryCheck, out: &mut [u64; 5]) -> u32
+    ensures { λ r. ⌜ Writes recordWords (checked (checkMeans c)) r (now (out .entry)) (now (out .exit)) ⌝ }
+{
+    match c {
+        EntryCheck::Refused(n) => n as u32,
+        EntryCheck::Whole(e) => {
+            out[0] = e.name.lo;
+            out[1] = e.name.hi;
+            out[2] = e.reach as u64;
+            out[3] = e.frames as u64;
+            out[4] = e.count as u64;
+            0
+        }
+    }
+}
+
+// What was found.
+pub fn put_found(f: Found, out: &mut [u64; 2]) -> u32
+    ensures { λ r. ⌜ Writes foundWords (foundMeans f) r (now (out .entry)) (now (out .exit)) ⌝ }
+{
+    match f {
+        Found::Refused(n) => n as u32,
+        Found::Nothing => {
+            out[0] = 0;
+            0
+        }
+        Found::At(i) => {
+            out[0] = 1;
+            out[1] = i as u64;
+            0
+        }
+    }
+}
+
+// Where a curve's list stands.
+fn put_samples(l: SampleList, out: &mut [u64; 6])
+    ensures { λ _. ⌜ now (out .exit) ≡ sets (now (out .entry)) 0 (curveWords {A = Float} (listed (listMeans l) (l .length))) ⌝ }
+{
+    out[0] = 2;
+    out[1] = l.start as u64;
+    out[2] = l.end as u64;
+    out[3] = l.place as u64;
+    out[4] = l.length as u64;
+    out[5] = l.size as u64;
+}
+
+// A curve of numbers.
+fn put_scalar(r: ScalarRecord, out: &mut [u64; 6], value: &mut [f64; 1])
+    ensures { λ _. ⌜ (now (out .exit) ≡ sets (now (out .entry)) 0 (curveWords (recordMeans r))) × (now (value .exit) ≡ sets (now (value .entry)) 0 (curveFloats oneFloat (recordMeans r))) ⌝ }
+{
+    match r {
+        ScalarRecord::None => {
+            out[0] = 0;
+        }
+        ScalarRecord::Constant(v) => {
+            out[0] = 1;
+            value[0] = v;
+        }
+        ScalarRecord::List(l) => put_samples(l, out),
+    }
+}
+
+// The record of a curve of numbers.
+pub fn put_curve(c: CurveRecord, out: &mut [u64; 6], value: &mut [f64; 1]) -> u32
+    ensures { λ r. ⌜ Writes curveWords (curveMeans c) r (now (out .entry)) (now (out .exit)) × Writes (curveFloats oneFloat) (curveMeans c) r (now (value .entry)) (now (value .exit)) ⌝ }
+{
+    match c {
+        CurveRecord::Refused(n) => n as u32,
+        CurveRecord::Curve(r) => {
+            put_scalar(r, out, value);
+            0
+        }
+    }
+}
+
+// Nine floats, column by column.
+fn put_nine(m: Mat3, out: &mut [f64; 9])
+    ensures { λ _. ⌜ now (out .exit) ≡ sets (now (out .entry)) 0 (nineFloats m) ⌝ }
+{
+    out[0] = m.c0.x;
+    out[1] = m.c0.y;
+    out[2] = m.c0.z;
+    out[3] = m.c1.x;
+    out[4] = m.c1.y;
+    out[5] = m.c1.z;
+    out[6] = m.c2.x;
+    out[7] = m.c2.y;
+    out[8] = m.c2.z;
+}
+
+// A curve of rotations.
+fn put_turn(r: RotationRecord, out: &mut [u64; 6], value: &mut [f64; 9])
+    ensures { λ _. ⌜ (now (out .exit) ≡ sets (now (out .entry)) 0 (curveWords (rotationRecordMeans r))) × (now (value .exit) ≡ sets (now (value .entry)) 0 (curveFloats nineFloats (rotationRecordMeans r))) ⌝ }
+{
+    match r {
+        RotationRecord::None => {
+            out[0] = 0;
+        }
+        RotationRecord::Constant(m) => {
+            out[0] = 1;
+            put_nine(m, value);
+        }
+        RotationRecord::List(l) => put_samples(l, out),
+    }
+}
+
+// The record of a curve of rotations.
+pub fn put_rotation(c: RotationAnswer, out: &mut [u64; 6], value: &mut [f64; 9]) -> u32
+    ensures { λ r. ⌜ Writes curveWords (rotationAnswerMeans c) r (now (out .entry)) (now (out .exit)) × Writes (curveFloats nineFloats) (rotationAnswerMeans c) r (now (value .entry)) (now (value .exit)) ⌝ }
+{
+    match c {
+        RotationAnswer::Refused(n) => n as u32,
+        RotationAnswer::Curve(r) => {
+            put_turn(r, out, value);
+            0
+        }
+    }
+}
+
+// Sixteen floats, column by column.
+pub fn put_sixteen(a: MatrixAnswer, out: &mut [f64; 16]) -> u32
+    ensures { λ r. ⌜ Writes sixteenFloats (matrixAnswerMeans a) r (now (out .entry)) (now (out .exit)) ⌝ }
+{
+    match a {
+        MatrixAnswer::Refused(n) => n as u32,
+        MatrixAnswer::Matrix(m) => {
+            out[0] = m.c0.x;
+            out[1] = m.c0.y;
+            out[2] = m.c0.z;
+            out[3] = m.c0.w;
+            out[4] = m.c1.x;
+            out[5] = m.c1.y;
+            out[6] = m.c1.z;
+            out[7] = m.c1.w;
+            out[8] = m.c2.x;
+            out[9] = m.c2.y;
+            out[10] = m.c2.z;
+            out[11] = m.c2.w;
+            out[12] = m.c3.x;
+            out[13] = m.c3.y;
+            out[14] = m.c3.z;
+            out[15] = m.c3.w;
+            0
+        }
+    }
+}
+
+// A name.
+pub fn put_name(a: NameAnswer, out: &mut [u64; 2]) -> u32
+    ensures { λ r. ⌜ Writes nameWords (nameAnswerMeans a) r (now (out .entry)) (now (out .exit)) ⌝ }
+{
+    match a {
+        NameAnswer::Refused(n) => n as u32,
+        NameAnswer::Name(name) => {
+            out[0] = name.lo;
+            out[1] = name.hi;
+            0
+        }
+    }
+}
+
+// The place and the length of a list.
+pub fn put_list(a: ListAnswer, out: &mut [u64; 2]) -> u32
+    ensures { λ r. ⌜ Writes listedWords (listAnswerMeans a) r (now (out .entry)) (now (out .exit)) ⌝ }
+{
+    match a {
+        ListAnswer::Refused(n) => n as u32,
+        ListAnswer::List(l) => {
+            out[0] = l.place as u64;
+            out[1] = l.length as u64;
+            0
+        }
+    }
+}
+
+// The texture and the palette that are chosen.
+pub fn put_choice(a: ChoiceAnswer, out: &mut [u64; 2]) -> u32
+    ensures { λ r. ⌜ Writes chosenWords (choiceAnswerMeans a) r (now (out .entry)) (now (out .exit)) ⌝ }
+{
+    match a {
+        ChoiceAnswer::Refused(n) => n as u32,
+        ChoiceAnswer::Chosen(texture, palette) => {
+            out[0] = texture.0 as u64;
+            out[1] = palette.0 as u64;
+            0
+        }
+    }
+}
+
+// What was resampled, whatever the slice of floats holds.
+pub fn put_resampling(a: Resampling, out: &mut [u64; 4]) -> u32
+    ensures { λ r. ⌜ ((slice : List Float) → Writes resampledWords (resamplingMeans a slice) r (now (out .entry)) (now (out .exit))) ⌝ }
+{
+    match a {
+        Resampling::Refused(n) => n as u32,
+        Resampling::Nothing => {
+            out[0] = 0;
+            0
+        }
+        Resampling::Frames {
+            start_frame,
+            end_frame,
+            frames,
+        } => {
+            out[0] = 1;
+            out[1] = start_frame as u64;
+            out[2] = end_frame as u64;
+            out[3] = frames as u64;
+            0
+        }
+    }
+}
