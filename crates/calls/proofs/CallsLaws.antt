@@ -1,15 +1,12 @@
 -- A call's answer, from what its steps found. Assumes nothing.
-use Prim.Native.Nat.{ℕ, _+_, _-_, _*_, _≤_}
+use Prim.Native.Nat.{ℕ}
 use mathlib.Core.List.{List, []}
 use mathlib.Core.Path.{_≡_, refl, sym, ap, subst, _∙_}
-use native.Mathlib.Omega.{arith}
-use lib.ListN.{length, take, drop, length-drop}
+use lib.ListN.{take, drop}
 use Rattle.util.specs.Reader.{done, Outcome, accepted, refused, run, bind, Verdict, answered, denied, tell, told}
 use Rattle.util.proofs.ReadsLaws.{goes-on, stops}
-use Rattle.info_block.specs.declared.InfoBlock.{InfoBlock}
 use Rattle.info_block.specs.Name.{Name, named}
 use Rattle.info_block.specs.InfoBlock.{Block}
-use Rattle.info_block.specs.InfoBlockCode.{InsideBlock}
 use Rattle.info_block.specs.NameCode.{OneOf}
 use Rattle.nitro.specs.declared.container.EntryAt.{EntryAt}
 use Rattle.nitro.specs.declared.container.EntryFound.{EntryFound}
@@ -48,17 +45,6 @@ module _ (k : Kind) (s : List ℕ) (i : ℕ) (q : Query k) where
       → told (answer (on k i q) s) ≡ ask q (record { name = take 16 (drop (e .name) s); offset = e .offset; held = v })
   unfolding answer reader
   asked e w m v h = ap told (goes-on _ _ _ _ _ _ (w .reads ∙ ap (entryFrom k s e) h)) ∙ said (ask q (record { name = take 16 (drop (e .name) s); offset = e .offset; held = v })) s _
-
--- the names of an entry's info block stand in the section
-pub names-end : (s : List ℕ) (off p size : ℕ) (b : InfoBlock) → off ≤ length s → InsideBlock (drop off s) p size b → off + (b .names + 16 * b .count) ≤ length s
-names-end s off p size b h w =
-    let n = w .names-end in
-    let i = w .inside in
-    omega (arith, length-drop off s)
-
--- what stands from an offset on ends with the section
-pub onward-end : (s : List ℕ) (off : ℕ) → off ≤ length s → off + length (drop off s) ≡ length s
-onward-end s off h = let l = length-drop off s in omega arith
 
 -- ---- finding
 

@@ -1,5 +1,5 @@
 -- An entry opened and checked. Assumes nothing.
-use Prim.Native.Nat.{ℕ, _+_, _-_, max, _≤_, _<_}
+use Prim.Native.Nat.{ℕ, _+_, _-_, _*_, max, _≤_, _<_}
 use mathlib.Core.Bool.{true, false, false≢true}
 use mathlib.Core.List.{List, [], _∷_}
 use mathlib.Core.Logic.{⊎-elim}
@@ -19,6 +19,8 @@ use Rattle.nitro.specs.declared.container.EntryFound.{EntryFound}
 use Rattle.nitro.specs.declared.entry.Held.{Held}
 use Rattle.animation.specs.Animation.{animation}
 use Rattle.material_animation.specs.MaterialAnimation.{materialAnimation}
+use Rattle.info_block.specs.declared.InfoBlock.{InfoBlock}
+use Rattle.info_block.specs.InfoBlockCode.{InsideBlock}
 use Rattle.info_block.specs.Name.{Name}
 use Rattle.pattern.specs.Pattern.{pattern}
 use Rattle.nitro.specs.Container.{Kind, jnt, srt, pat, allKinds, kindOf, stamped, value, entry, EntryRecord, recordOf, entryOf}
@@ -43,6 +45,17 @@ onward off s = take-all (length s - off) (drop off s) (le-of-eq (length-drop off
 -- what is found of a slice that is lent from an offset onward, once its variant is known
 pub lent : {R : Type 0} (P : List ℕ → R → Type 0) (s : List ℕ) (off : ℕ) (r x : R) → P (take (length s - off) (drop off s)) r → r ≡ x → P (drop off s) x
 lent P s off r x h q = subst (P (drop off s)) q (subst (λ (l : List ℕ). P l r) (onward off s) h)
+
+-- the names of an entry's info block stand in the section
+pub names-end : (s : List ℕ) (off p size : ℕ) (b : InfoBlock) → off ≤ length s → InsideBlock (drop off s) p size b → off + (b .names + 16 * b .count) ≤ length s
+names-end s off p size b h w =
+    let n = w .names-end in
+    let i = w .inside in
+    omega (arith, length-drop off s)
+
+-- what stands from an offset on ends with the section
+pub onward-end : (s : List ℕ) (off : ℕ) → off ≤ length s → off + length (drop off s) ≡ length s
+onward-end s off h = let l = length-drop off s in omega arith
 
 -- ---- the check
 

@@ -23,7 +23,8 @@ use Rattle.calls.specs.declared.ListAnswer.{ListAnswer}
 use Rattle.calls.specs.Calls.{Query, Reply, PatternQuery, chosen, keys, noTrack, chosenOf, askPattern, ofPattern, patternName, textureNames, paletteNames, ask, on, answer}
 use Rattle.calls.specs.AnswersCode.{listAnswerMeans}
 use Rattle.pat.specs.PatCode.{KeysAt, KeysAre}
-use Rattle.calls.proofs.CallsLaws.{asked, names-end}
+use Rattle.nitro.proofs.EntryLaws.{names-end}
+use Rattle.calls.proofs.CallsLaws.{asked}
 
 -- a word of what stands from an offset onward
 word-onward : (n off q : ℕ) (s : List ℕ) → wordAt n (drop off s) q ≡ wordAt n s (off + q)

@@ -24,7 +24,8 @@ use Rattle.nitro.specs.EntryCode.{Opened}
 use Rattle.srt.specs.declared.TrackAt.{TrackAt}
 use Rattle.calls.specs.Calls.{Query, MaterialQuery, channelCurve, ofMaterial, materialName, askMaterial, ask, on, answer}
 use Rattle.srt.specs.SrtCode.{TrackStands}
-use Rattle.calls.proofs.CallsLaws.{asked, names-end}
+use Rattle.nitro.proofs.EntryLaws.{names-end}
+use Rattle.calls.proofs.CallsLaws.{asked}
 
 -- ---- an entry that is opened
 

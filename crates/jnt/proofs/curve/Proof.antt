@@ -10,8 +10,7 @@ use Rattle.animation.specs.AnimationCode.{tripleMeans, axisCurves}
 use Rattle.animation.proofs.ObjectLaws.{triple-inside, triple-axes}
 use Rattle.trs.specs.TrsCode.{recordedAxis}
 use Rattle.calls.specs.Calls.{curve, askObject}
-use Rattle.calls.proofs.CallsLaws.{onward-end}
-use Rattle.nitro.proofs.EntryLaws.{onward}
+use Rattle.nitro.proofs.EntryLaws.{onward, onward-end}
 use Rattle.jnt.specs.OpenedCode.{ObjectOpens}
 use Rattle.jnt.proofs.JntLaws.{entry-here, inside-here, told-here}
 use borrow.Author.Needs.{needs}

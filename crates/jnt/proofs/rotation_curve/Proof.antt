@@ -4,8 +4,7 @@ use native.Mathlib.Omega.{arith}
 use lib.ListN.{length}
 use Rattle.util.specs.Reader.{answered}
 use Rattle.calls.specs.Calls.{rotationCurve, askObject}
-use Rattle.calls.proofs.CallsLaws.{onward-end}
-use Rattle.nitro.proofs.EntryLaws.{onward}
+use Rattle.nitro.proofs.EntryLaws.{onward, onward-end}
 use Rattle.jnt.specs.OpenedCode.{ObjectOpens}
 use Rattle.jnt.proofs.JntLaws.{entry-here, inside-here, told-here}
 use borrow.Author.Needs.{needs}

@@ -4,7 +4,7 @@ use mathlib.Core.List.{List}
 use mathlib.Core.Path.{sym, ap, subst, _∙_}
 use native.Mathlib.Omega.{arith}
 use lib.ListN.{length}
-use Rattle.nitro.proofs.EntryLaws.{onward, lent}
+use Rattle.nitro.proofs.EntryLaws.{onward, lent, onward-end}
 use Rattle.srt.specs.SrtCode.{TrackFinds}
 use Rattle.util.specs.Reader.{answered}
 use Rattle.curve.specs.Curve.{recorded}
@@ -12,7 +12,6 @@ use Rattle.curve.specs.CurveCode.{scalarCurve, Inside}
 use Rattle.material_animation.specs.declared.ChannelRead.{ChannelRead}
 use Rattle.material_animation.specs.MaterialAnimationCode.{ChannelReads}
 use Rattle.calls.specs.Calls.{channelCurve}
-use Rattle.calls.proofs.CallsLaws.{onward-end}
 use Rattle.srt.proofs.SrtLaws.{channel-past, channel-there, channel-recorded}
 use borrow.Author.Needs.{needs}
 use Rattle.srt.proofs.channel_curve.Statement.{statement}
