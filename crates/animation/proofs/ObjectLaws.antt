@@ -10,6 +10,7 @@ use lib.ListN.{length, take, drop}
 use Rattle.util.specs.declared.cur.Reach.{Reach}
 use Rattle.util.specs.declared.cur.Reach.the-variants.{Whole, Refused}
 use Rattle.animation.specs.declared.Animation.{Animation as Known}
+use Rattle.animation.specs.declared.ObjectRead.{ObjectRead}
 use Rattle.animation.specs.declared.Tables.{Tables}
 use Rattle.animation.specs.declared.TRSCurves.{TRSCurves}
 use Rattle.animation.specs.declared.Triple.{Triple as CodeTriple}
@@ -22,7 +23,7 @@ use Rattle.util.proofs.ViewLaws.{view-take, view-length}
 use Rattle.util.proofs.Each.{whole-of, refused-of, from-zero, each-read}
 use Rattle.util.proofs.Calls.{after, run-bind}
 use Rattle.animation.specs.Animation.{Object, stillObject, axesOf, animated, object, Animation, animationStamp, mostObjects, animation}
-use Rattle.animation.specs.AnimationCode.{tripleMeans, axisCurves, InsideAxes, objectCurves, InsideObject, curvesOf, tablesAt, objectsAt, WholeAnimation}
+use Rattle.animation.specs.AnimationCode.{tripleMeans, axisCurves, InsideAxes, objectCurves, InsideObject, ObjectReads, stillCurves, refusedObject, curvesOf, tablesAt, objectsAt, WholeAnimation}
 
 -- ---- an object: its flags and two bytes, then what the flags say
 
@@ -48,6 +49,13 @@ module _ (pivot basis p m : ℕ) (s : List ℕ) where
       ∙ (ap (run (by (bit (wordAt 2 s p) 0) (wordAt 2 s p)) s) (sym g)
       ∙ (ap (λ (x : ℕ). run (by (bit x 0) x) s far) (sym e)
       ∙ ap (λ (x : Bool). run (by x flags) s far) (sym q)))
+
+-- the curves of a refused object stand, since there are none
+pub still-inside : (t : Tables) (s : List ℕ) → InsideObject t s stillCurves
+still-inside t s = record { trans = record { x = tt; y = tt; z = tt }; rotation = tt; scale = record { x = tt; y = tt; z = tt } }
+
+pub object-refused : {r : Reader Object} {t : Tables} {s : List ℕ} {m n : ℕ} {x : ObjectRead} → x ≡ refusedObject n → run r s m ≡ refused n → ObjectReads r t s m x
+object-refused {r} {t} {s} {m} q e = subst (ObjectReads r t s m) (sym q) (record { reads = e; holds = still-inside t s })
 
 -- ---- the entry
 

@@ -13,6 +13,7 @@ use Rattle.util.specs.declared.cur.Reach.the-variants.{Whole, Refused}
 use Rattle.matrix.specs.declared.Mat3.{Mat3}
 use Rattle.matrix.specs.Matrix.{identity3}
 use Rattle.animation.specs.declared.Tables.{Tables}
+use Rattle.animation.specs.declared.Referred.{Referred as CodeReferred}
 use Rattle.animation.specs.declared.RotationCurve.{RotationCurve}
 use Rattle.animation.specs.declared.RotationRead.{RotationRead}
 use Rattle.curve.specs.declared.SampleList.{SampleList}
@@ -27,38 +28,66 @@ use Rattle.util.proofs.Calls.{after, run-bind, accepted-first}
 use Rattle.curve.specs.Curve.{Curve, constant, samples}
 use Rattle.curve.specs.CurveCode.{listMeans}
 use Rattle.animation.specs.Animation.{startOf, endOf, valuesOf, listOf, Referred, pivotRecord, basisRecord, referred, reference, rotationList, rotation}
-use Rattle.animation.specs.AnimationCode.{codeList, referenceEnd, matrixFor, RotationReads}
+use Rattle.animation.specs.AnimationCode.{codeList, referredMeans, referenceEnd, matrixFor, RotationReads}
 use Rattle.animation.proofs.ScalarLaws.{values-le}
 
 -- ---- references
 
--- a record stands where its data's place and its number say
-pub refers : (pivot basis x : ℕ) (b : Bool) → b ≡ bit x 15 → (i : ℕ) → i ≡ bits x 0 15 → cond b (pivotRecord (pivot + 6 * i)) (basisRecord (basis + 10 * i)) ≡ referred pivot basis x
-unfolding referred
-refers pivot basis x b q i e =
-    ap (λ (n : ℕ). cond b (pivotRecord (pivot + 6 * n)) (basisRecord (basis + 10 * n))) e
-    ∙ ap (λ (y : Bool). cond y (pivotRecord (pivot + 6 * bits x 0 15)) (basisRecord (basis + 10 * bits x 0 15))) q
-
--- the place of the data, looked up by bit 15
-looked : (pivot basis j : ℕ) → j < 2 → getD (basis ∷ pivot ∷ []) j 0 ≡ cond (eqb j 1) pivot basis
-looked pivot basis zero l = refl
-looked pivot basis (suc zero) l = refl
-looked pivot basis (suc (suc j)) l = absurd (omega arith)
-
+-- an index below two, by the bit that it is
 pub lookup-bound : (x j : ℕ) → j ≡ bits x 15 16 → j < 2
 lookup-bound x j e = subst (λ (k : ℕ). k < 2) (sym e) (mod-lt _ (pow-pos 1))
 
-pub lookup-of : (pivot basis x : ℕ) (b : Bool) → b ≡ bit x 15 → (j : ℕ) → j ≡ bits x 15 16 → getD (basis ∷ pivot ∷ []) j 0 ≡ cond b pivot basis
-lookup-of pivot basis x b q j e = looked pivot basis j (lookup-bound x j e) ∙ ap (λ (k : ℕ). cond (eqb k 1) pivot basis) e ∙ ap (λ (y : Bool). cond y pivot basis) (sym q)
+-- what bit 15 looks up in an array of two
+looked : (p b j : ℕ) → j < 2 → getD (b ∷ p ∷ []) j 0 ≡ cond (eqb j 1) p b
+looked p b zero l = refl
+looked p b (suc zero) l = refl
+looked p b (suc (suc j)) l = absurd (omega arith)
 
--- no record's place wraps
-pub place-small : (t : Tables) (x : ℕ) → t .pivot < 4294967296 → t .basis < 4294967296 → (r : Referred) → r ≡ referred (t .pivot) (t .basis) x → r .place < 8589934592
-unfolding referred
-place-small t x p b r e = subst (λ (y : Referred). y .place < 8589934592) (sym e) (go (bit x 15))
-  where
-    go : (y : Bool) → cond y (pivotRecord (t .pivot + 6 * bits x 0 15)) (basisRecord (t .basis + 10 * bits x 0 15)) .place < 8589934592
-    go true = let h = mod-lt x (pow-pos 15) in omega arith
-    go false = let h = mod-lt x (pow-pos 15) in omega arith
+module _ (pivot basis x j : ℕ) (e : j ≡ bits x 15 16) where
+  abbrev sized : ℕ
+  sized = getD (10 ∷ 6 ∷ []) j 0
+
+  abbrev placed : ℕ → ℕ
+  placed i = getD (basis ∷ pivot ∷ []) j 0 + sized * i
+
+  by-bit : (p b : ℕ) → getD (b ∷ p ∷ []) j 0 ≡ cond (bit x 15) p b
+  by-bit p b = looked p b j (lookup-bound x j e) ∙ ap (λ (k : ℕ). cond (eqb k 1) p b) e
+
+  -- a record stands where its data's place and its number say
+  pub refers : (y : Bool) → y ≡ bit x 15 → (i : ℕ) → i ≡ bits x 0 15 → (cond y (pivotRecord (placed i)) (basisRecord (placed i)) ≡ referred pivot basis x) × (sized ≡ referred pivot basis x .size)
+  unfolding referred
+  refers y q i g = go (bit x 15) (by-bit pivot basis) (by-bit 6 10) y q
+    where
+      go : (z : Bool) → getD (basis ∷ pivot ∷ []) j 0 ≡ cond z pivot basis → sized ≡ cond z 6 10 → (y : Bool) → y ≡ z → (cond y (pivotRecord (placed i)) (basisRecord (placed i)) ≡ cond z (pivotRecord (pivot + 6 * bits x 0 15)) (basisRecord (basis + 10 * bits x 0 15))) × (sized ≡ cond z (pivotRecord (pivot + 6 * bits x 0 15)) (basisRecord (basis + 10 * bits x 0 15)) .size)
+      go true d n y h = rw h (rw d (rw n (rw g (refl, refl))))
+      go false d n y h = rw h (rw d (rw n (rw g (refl, refl))))
+
+  -- and its place does not wrap
+  pub place-small : pivot < 4294967296 → basis < 4294967296 → (i : ℕ) → i ≡ bits x 0 15 → placed i < 8589934592
+  place-small p b i g = go j (lookup-bound x j e) (subst (λ (n : ℕ). n < 32768) (sym g) (mod-lt _ (pow-pos 15)))
+    where
+      go : (k : ℕ) → k < 2 → i < 32768 → getD (basis ∷ pivot ∷ []) k 0 + getD (10 ∷ 6 ∷ []) k 0 * i < 8589934592
+      go zero l h = omega arith
+      go (suc zero) l h = omega arith
+      go (suc (suc k)) l h = absurd (omega arith)
+
+module _ (t : Tables) (x : ℕ) where
+  -- no record's end wraps
+  pub end-small : t .pivot < 4294967296 → t .basis < 4294967296 → referenceEnd t x < 8589934592
+  unfolding referred
+  end-small p b = go (bit x 15)
+    where
+      go : (y : Bool) → cond y (pivotRecord (t .pivot + 6 * bits x 0 15)) (basisRecord (t .basis + 10 * bits x 0 15)) .place + cond y (pivotRecord (t .pivot + 6 * bits x 0 15)) (basisRecord (t .basis + 10 * bits x 0 15)) .size < 8589934592
+      go true = let h = mod-lt x (pow-pos 15) in omega arith
+      go false = let h = mod-lt x (pow-pos 15) in omega arith
+
+  -- the code's place and bytes lead there
+  pub end-of : (r : CodeReferred) → referredMeans r ≡ referred (t .pivot) (t .basis) x → r .size ≡ referred (t .pivot) (t .basis) x .size → r .place + r .size ≡ referenceEnd t x
+  end-of r e n = ap (λ (p : ℕ). p + r .size) (go (r .pivot) (r .place) ∙ ap (λ (y : Referred). y .place) e) ∙ ap (λ (n : ℕ). referred (t .pivot) (t .basis) x .place + n) n
+    where
+      go : (y : Bool) (p : ℕ) → p ≡ cond y (pivotRecord p) (basisRecord p) .place
+      go true p = refl
+      go false p = refl
 
 reference-run : (t : Tables) (x : ℕ) (s : List ℕ) (m : ℕ) → run (reference (t .pivot) (t .basis) x) s m ≡ ends (referenceEnd t x) (length s) (accepted (max m (referenceEnd t x)) (matrixFor t s x))
 unfolding reference run
@@ -195,7 +224,6 @@ module _ (t : Tables) (w off next m : ℕ) (s : List ℕ) where
           holds = (
             record {
               room = subst (λ (o : ℕ). o + 2 * l .length ≤ length s) place h;
-              few = subst (λ (n : ℕ). n ≤ 65535) (sym count) (values-le w);
               ordered = subst (λ (x : SampleList). x .start < x .end) (sym q) f;
               records = λ i i<n. subst (λ (o : ℕ). referenceEnd t (getD (view 2 little (l .length) (drop o s)) i 0) ≤ length s) place (records t s (view 2 little (l .length) (drop off s)) _ _ _ (v .1) i (subst (λ (n : ℕ). i < n) (sym (view-length 2 little (l .length) (drop off s))) i<n));
             },

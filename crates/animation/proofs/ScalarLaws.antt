@@ -126,7 +126,6 @@ module _ (t : Triple) (w off next m : ℕ) (s : List ℕ) where
       values-there =
           record {
             ends = room;
-            few = values-le w;
             frames = div-le-self (endOf w - startOf w) (2 ^ rateOf w);
             wide = subst (λ (f : Fix). numberBytes f ≤ valueSize t w) (sym k) (number-fits t (formatOf (widthOf w)));
             small = small-size t w;

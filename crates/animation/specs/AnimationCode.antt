@@ -1,17 +1,18 @@
 -- What the code of animation.rt answers: where the curves of an entry stand. Assumes nothing.
 use Prim.Native.Nat.{ℕ, _+_, _*_, _≤_, _<_}
+use mathlib.Core.Bool.{cond}
 use mathlib.Core.List.{List, map}
 use mathlib.Core.Path.{_≡_}
 use lib.Ieee.{Float}
 use lib.ListN.{length, take, drop, getD}
 use Rattle.util.specs.View.{little, wordAt, view}
 use Rattle.util.specs.Reader.{Reader, Outcome, accepted, refused, run, each}
-use Rattle.util.specs.ReaderCode.{Reads}
+use Rattle.util.specs.ReaderCode.{reached, Reads}
+use Rattle.util.specs.declared.cur.Reach.the-variants.{Refused}
 use Rattle.animation.specs.declared.Triple.{Triple as CodeTriple}
 use Rattle.animation.specs.declared.Triple.the-variants.{Translation, Scale}
 use Rattle.animation.specs.declared.Tables.{Tables}
 use Rattle.animation.specs.declared.Referred.{Referred as CodeReferred}
-use Rattle.animation.specs.declared.Referred.the-variants.{Pivot, Basis}
 use Rattle.animation.specs.declared.Animation.{Animation as Known}
 use Rattle.animation.specs.declared.AnimationRead.{AnimationRead}
 use Rattle.animation.specs.declared.AxisCurves.{AxisCurves}
@@ -87,8 +88,7 @@ noCurves = record { x = ScalarCurve.None; y = ScalarCurve.None; z = ScalarCurve.
 -- ---- rotations
 
 abbrev pub referredMeans : CodeReferred → Referred
-referredMeans (Pivot place) = pivotRecord place
-referredMeans (Basis place) = basisRecord place
+referredMeans r = cond (r .pivot) (pivotRecord (r .place)) (basisRecord (r .place))
 
 -- where the record ends that a reference leads to, and the matrix that it holds
 abbrev pub referenceEnd : Tables → ℕ → ℕ
@@ -112,7 +112,6 @@ rotationCurve t s (RotationCurve.Samples l) = samples (listMeans l) (map (matrix
 -- a list of references that stands in the section with the records that they lead to
 pub record InsideReferences (t : Tables) (s : List ℕ) (l : SampleList) : Type 0 where
   pub room : l .place + 2 * l .length ≤ length s
-  pub few : l .length ≤ 65535
   pub ordered : l .start < l .end
   pub records : (i : ℕ) → i < l .length → referenceEnd t (getD (references s l) i 0) ≤ length s
 
@@ -143,18 +142,16 @@ pub record InsideObject (t : Tables) (s : List ℕ) (c : TRSCurves) : Type 0 whe
   pub scale : InsideAxes s (c .scale)
 
 abbrev pub objectMeans : Tables → List ℕ → ObjectRead → Outcome Object
-objectMeans t s (ObjectRead.Whole c m) = accepted m (objectCurves t s c)
-objectMeans t s (ObjectRead.Refused n) = refused n
-
-abbrev pub ObjectInside : Tables → List ℕ → ObjectRead → Type 0
-ObjectInside t s (ObjectRead.Whole c m) = InsideObject t s c
-ObjectInside t s (ObjectRead.Refused n) = Unit {0}
+objectMeans t s x = reached (x .reach) (objectCurves t s (x .curves))
 
 abbrev pub ObjectReads : Reader Object → Tables → List ℕ → ℕ → ObjectRead → Type 0
-ObjectReads r t s reach x = Reads (objectMeans t s) (ObjectInside t s) r s reach x
+ObjectReads r t s reach x = Reads (objectMeans t s) (λ y. InsideObject t s (y .curves)) r s reach x
 
 abbrev pub stillCurves : TRSCurves
 stillCurves = record { trans = noCurves; rotation = RotationCurve.None; scale = noCurves }
+
+abbrev pub refusedObject : ℕ → ObjectRead
+refusedObject n = record { reach = Refused n; curves = stillCurves }
 
 -- the curves of a triple
 abbrev pub curvesOf : CodeTriple → TRSCurves → AxisCurves

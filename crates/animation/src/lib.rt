@@ -22,7 +22,7 @@ ghost use Rattle.util.specs.Reader.{run, each};
 ghost use Rattle.util.specs.ReaderCode.{reachOf, Reads};
 ghost use Rattle.curve.specs.CurveCode.{formatMeans};
 ghost use Rattle.animation.specs.Animation.{numbersOf, leftOutBit, constantBit, startOf, endOf, widthOf, formatOf, valueSize, listFields, scalarList, scalar, axis, axes, animatedAxes, reference, rotationList, rotation, animatedRotation, animated, object};
-ghost use Rattle.animation.specs.AnimationCode.{tripleMeans, fieldsMeans, Forward, codeList, ScalarReads, AxesReads, noCurves, referredMeans, referenceEnd, RotationReads, ObjectReads, stillCurves, curvesOf, tablesAt, AnimationIs};
+ghost use Rattle.animation.specs.AnimationCode.{tripleMeans, fieldsMeans, Forward, codeList, ScalarReads, AxesReads, noCurves, referredMeans, referenceEnd, RotationReads, ObjectReads, stillCurves, refusedObject, curvesOf, tablesAt, AnimationIs};
 ghost use Rattle.animation.specs.Animation as spec;
 
 // One of an object's two triples of curves.
@@ -78,10 +78,10 @@ pub enum RotationRead {
     Refused(u8),
 }
 
-// An object's curves, and the reach after them.
-pub enum ObjectRead {
-    Whole(TRSCurves, usize),
-    Refused(u8),
+// How far an object reaches, and its curves: where it is refused, none. Curves inside an enum would be copied out of it at every use.
+pub struct ObjectRead {
+    pub reach: Reach,
+    pub curves: TRSCurves,
 }
 
 // What is known of a whole entry: its frames, its objects, its tables and its reach.
@@ -98,7 +98,7 @@ pub enum AnimationRead {
 }
 
 // How many numbers a value of the triple has.
-fn numbers(which: Triple) -> usize
+fn numbers(which: Triple) -> u16
     ensures { λ r. ⌜ (r ≡ numbersOf (tripleMeans which)) × (1 ≤ r) × (r ≤ 2) ⌝ }
 {
     match which {
@@ -146,13 +146,13 @@ fn read_fields(s: &[u8], p: usize, reach: usize) -> FieldsRead
 }
 
 // The list of a curve word.
-fn sample_list(w: u32, place: usize, size: usize) -> SampleList
+fn sample_list(w: u32, place: usize, size: u16) -> SampleList
     requires { ⌜ startOf w < endOf w ⌝ }
     ensures { λ r. ⌜ r ≡ codeList w place size ⌝ }
 {
     let start = bits32(w, 0, 16) as u16;
     let end = bits32(w, 16, 28) as u16;
-    let length = ((end - start) >> bits32(w, 30, 32)) as usize;
+    let length = (end - start) >> bits32(w, 30, 32);
     SampleList {
         start,
         end,
@@ -173,7 +173,7 @@ fn number_of(w: u32) -> Number
 }
 
 // The bytes of a value of a curve word's list.
-fn value_size(which: Triple, w: u32) -> usize
+fn value_size(which: Triple, w: u32) -> u16
     ensures { λ r. ⌜ (r ≡ valueSize (tripleMeans which) w) × (r ≤ 8) ⌝ }
 {
     if bits32(w, 28, 30) == 0 {
@@ -188,7 +188,7 @@ fn read_constant(s: &[u8], which: Triple, at: Cur) -> ScalarRead
     requires { ⌜ at .pos ≤ 1048576 ⌝ }
     ensures { λ r. ⌜ ScalarReads (scalar (tripleMeans which) true (at .pos)) (now (s .entry)) (at .reach) (at .pos + 8) r ⌝ }
 {
-    let pos = at.pos + 4 * numbers(which);
+    let pos = at.pos + 4 * numbers(which) as usize;
     if s.len() < pos {
         return ScalarRead::Refused(2);
     }
@@ -208,7 +208,7 @@ fn read_values(s: &[u8], which: Triple, w: u32, offset: u32, at: Cur) -> ScalarR
 {
     let size = value_size(which, w);
     let list = sample_list(w, offset as usize, size);
-    let end = offset as usize + size * list.length;
+    let end = offset as usize + size as usize * list.length as usize;
     if s.len() < end {
         return ScalarRead::Refused(2);
     }
@@ -270,23 +270,25 @@ fn read_axes(s: &[u8], which: Triple, flags: u16, at: Cur) -> AxesRead
     }
 }
 
-// What a u16 refers to: a record of the pivot or of the basis data, by where it stands.
-pub enum Referred {
-    Pivot(usize),
-    Basis(usize),
+// What a u16 refers to: a record of the pivot or of the basis data, where it stands, and its bytes.
+pub struct Referred {
+    pub pivot: bool,
+    pub place: usize,
+    pub size: usize,
 }
 
 pub fn refer(t: Tables, x: u16) -> Referred
-    ensures { λ r. ⌜ referredMeans r ≡ spec.referred (t .pivot) (t .basis) x ⌝ }
+    ensures { λ r. ⌜ (referredMeans r ≡ spec.referred (t .pivot) (t .basis) x) × (r .size ≡ spec.referred (t .pivot) (t .basis) x .size) ⌝ }
 {
-    let i = bits16(x, 0, 15) as usize;
     // looked up and not chosen by an `if`: the loop over references takes half the time so
     let tables = [t.basis as usize, t.pivot as usize];
-    let table = tables[bits16(x, 15, 16) as usize];
-    if bit16(x, 15) {
-        Referred::Pivot(table + 6 * i)
-    } else {
-        Referred::Basis(table + 10 * i)
+    let sizes = [10usize, 6];
+    let kind = bits16(x, 15, 16) as usize;
+    let size = sizes[kind];
+    Referred {
+        pivot: bit16(x, 15),
+        place: tables[kind] + size * (bits16(x, 0, 15) as usize),
+        size,
     }
 }
 
@@ -294,10 +296,8 @@ pub fn refer(t: Tables, x: u16) -> Referred
 fn reference_end(t: Tables, x: u16) -> usize
     ensures { λ r. ⌜ r ≡ referenceEnd t x ⌝ }
 {
-    match refer(t, x) {
-        Referred::Pivot(place) => place + 6,
-        Referred::Basis(place) => place + 10,
-    }
+    let r = refer(t, x);
+    r.place + r.size
 }
 
 // How far the record reaches that x refers to.
@@ -354,7 +354,7 @@ fn read_references(s: &[u8], t: Tables, w: u32, offset: u32, at: Cur) -> Rotatio
 {
     let place = offset as usize;
     let list = sample_list(w, place, 2);
-    let n = list.length;
+    let n = list.length as usize;
     let end = place + 2 * n;
     if s.len() < end {
         return RotationRead::Refused(2);
@@ -388,7 +388,7 @@ fn read_rotation_list(s: &[u8], t: Tables, at: Cur) -> RotationRead
     }
 }
 
-pub fn no_axes() -> AxisCurves
+fn no_axes() -> AxisCurves
     ensures { λ r. ⌜ r ≡ noCurves ⌝ }
 {
     AxisCurves {
@@ -433,42 +433,51 @@ fn read_animated_rotation(s: &[u8], t: Tables, flags: u16, at: Cur) -> RotationR
     }
 }
 
-// The fields of an animated object: translation, rotation, scale.
-fn read_animated(s: &[u8], t: Tables, flags: u16, at: Cur) -> ObjectRead
-    requires { ⌜ at .pos ≤ 131072 ⌝ }
-    ensures { λ r. ⌜ ObjectReads (animated (t .pivot) (t .basis) flags (at .pos)) t (now (s .entry)) (at .reach) r ⌝ }
-{
-    match read_animated_axes(s, Triple::Translation, flags, at) {
-        AxesRead::Refused(n) => ObjectRead::Refused(n),
-        AxesRead::Whole(trans, rotation_at) => {
-            match read_animated_rotation(s, t, flags, rotation_at) {
-                RotationRead::Refused(n) => ObjectRead::Refused(n),
-                RotationRead::Whole(rotation, scale_at) => {
-                    match read_animated_axes(s, Triple::Scale, flags, scale_at) {
-                        AxesRead::Refused(n) => ObjectRead::Refused(n),
-                        AxesRead::Whole(scale, end) => ObjectRead::Whole(
-                            TRSCurves {
-                                trans,
-                                rotation,
-                                scale,
-                            },
-                            end.reach,
-                        ),
-                    }
-                }
-            }
-        }
-    }
-}
-
 // The curves of an object that nothing animates.
-pub fn still_curves() -> TRSCurves
+fn still_curves() -> TRSCurves
     ensures { λ r. ⌜ r ≡ stillCurves ⌝ }
 {
     TRSCurves {
         trans: no_axes(),
         rotation: RotationCurve::None,
         scale: no_axes(),
+    }
+}
+
+fn refused_object(n: u8) -> ObjectRead
+    ensures { λ r. ⌜ r ≡ refusedObject n ⌝ }
+{
+    ObjectRead {
+        reach: Reach::Refused(n),
+        curves: still_curves(),
+    }
+}
+
+// The fields of an animated object: translation, rotation, scale.
+fn read_animated(s: &[u8], t: Tables, flags: u16, at: Cur) -> ObjectRead
+    requires { ⌜ at .pos ≤ 131072 ⌝ }
+    ensures { λ r. ⌜ ObjectReads (animated (t .pivot) (t .basis) flags (at .pos)) t (now (s .entry)) (at .reach) r ⌝ }
+{
+    match read_animated_axes(s, Triple::Translation, flags, at) {
+        AxesRead::Refused(n) => refused_object(n),
+        AxesRead::Whole(trans, rotation_at) => {
+            match read_animated_rotation(s, t, flags, rotation_at) {
+                RotationRead::Refused(n) => refused_object(n),
+                RotationRead::Whole(rotation, scale_at) => {
+                    match read_animated_axes(s, Triple::Scale, flags, scale_at) {
+                        AxesRead::Refused(n) => refused_object(n),
+                        AxesRead::Whole(scale, end) => ObjectRead {
+                            reach: Reach::Whole(end.reach),
+                            curves: TRSCurves {
+                                trans,
+                                rotation,
+                                scale,
+                            },
+                        },
+                    }
+                }
+            }
+        }
     }
 }
 
@@ -479,12 +488,15 @@ pub fn read_object(s: &[u8], t: Tables, p: usize, reach: usize) -> ObjectRead
 {
     let pos = p + 4;
     if s.len() < pos {
-        return ObjectRead::Refused(2);
+        return refused_object(2);
     }
     let flags = word16(s, p);
     let far = greater(reach, pos);
     if bit16(flags, 0) {
-        return ObjectRead::Whole(still_curves(), far);
+        return ObjectRead {
+            reach: Reach::Whole(far),
+            curves: still_curves(),
+        };
     }
     read_animated(s, t, flags, Cur { pos, reach: far })
 }
@@ -504,10 +516,8 @@ fn follow_object(s: &[u8], t: Tables, p: usize, reach: usize) -> Reach
     requires { ⌜ p ≤ 65535 ⌝ }
     ensures { λ r. ⌜ r ≡ reachOf (run (object (t .pivot) (t .basis) p) (now (s .entry)) reach) ⌝ }
 {
-    match read_object(s, t, p, reach) {
-        ObjectRead::Whole(_, m) => Reach::Whole(m),
-        ObjectRead::Refused(n) => Reach::Refused(n),
-    }
+    let r = read_object(s, t, p, reach);
+    r.reach
 }
 
 // How far the n objects reach whose offsets stand at 20.

@@ -40,7 +40,6 @@ scalarCurve s (Samples l number) = samples (listMeans l) (valuesIn s l number)
 -- a list whose values stand in the section
 pub record InsideList (s : List ℕ) (l : SampleList) (number : Number) : Type 0 where
   pub ends : l .place + l .size * l .length ≤ length s
-  pub few : l .length ≤ 65535
   pub frames : l .length ≤ l .end - l .start
   pub wide : numberBytes (formatMeans number) ≤ l .size
   pub small : l .size ≤ 8

@@ -28,8 +28,8 @@ pub enum Number {
 // place counts from the section's start.
 pub struct SampleList {
     pub place: usize,
-    pub length: usize,
-    pub size: usize,
+    pub length: u16,
+    pub size: u16,
     pub start: u16,
     pub end: u16,
 }
@@ -132,11 +132,11 @@ pub fn lerp_mat(lo: Mat3, hi: Mat3, g: f64) -> Mat3
 }
 
 // The number of value k of a list that stands at `place`.
-fn value(s: &[u8], place: usize, size: usize, number: Number, k: usize) -> f64
+fn value(s: &[u8], place: usize, size: u16, number: Number, k: usize) -> f64
     requires { ⌜ place + size * k + numberBytes (formatMeans number) ≤ length (now s) ⌝ }
     ensures { λ r. ⌜ r ≡ numberOf (formatMeans number) (drop (place + size * k) (now (s .entry))) ⌝ }
 {
-    let at = place + size * k;
+    let at = place + size as usize * k;
     match number {
         Number::Fix1_19_12 => Fix1_19_12::read(word32(s, at)),
         Number::Fix1_3_12 => Fix1_3_12::read(word16(s, at)),
@@ -153,7 +153,7 @@ fn sample_list(s: &[u8], l: SampleList, number: Number, frame: u16) -> f64
         return value(s, l.place, l.size, number, 0);
     }
     if l.end - 1 <= frame {
-        return value(s, l.place, l.size, number, l.length - 1);
+        return value(s, l.place, l.size, number, l.length as usize - 1);
     }
     let p = locate(l.start, l.end, frame, l.length as u64);
     let lo = value(s, l.place, l.size, number, p.lo as usize);

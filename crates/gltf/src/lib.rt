@@ -1,5 +1,7 @@
 // Domains of curves, and three curves resampled onto the union of theirs.
 use animation::AxisCurves;
+use animation::TRSCurves;
+use animation::Triple;
 use curve::ScalarCurve;
 use trs::sample_axes;
 ghost use mathlib.Core.Path.{_≡_};
@@ -9,7 +11,8 @@ ghost use Prim.Native.Nat.{ℕ, _-_, _*_, _/_, _<_, _≤_, min, max};
 ghost use lib.ListN.{length};
 ghost use lib.Seq.{sets};
 ghost use Rattle.curve.specs.CurveCode.{Inside, scalarCurve};
-ghost use Rattle.animation.specs.AnimationCode.{axisCurves, InsideAxes};
+ghost use Rattle.animation.specs.Animation.{defaultOf};
+ghost use Rattle.animation.specs.AnimationCode.{tripleMeans, axisCurves, curvesOf, InsideAxes};
 ghost use Rattle.gltf.specs.Curve.{over, isEmpty, anyEmpty, axesDomain, framesFrom, framesOf, sampleAxes, sliceOf};
 ghost use Rattle.gltf.specs.CurveCode.{domainMeans, Stepped, resamplingMeans};
 ghost use Rattle.gltf.specs.Curve as spec;
@@ -133,7 +136,7 @@ fn domain(s: &[u8], c: ScalarCurve) -> CurveDomain
     match c {
         ScalarCurve::None => CurveDomain::None,
         ScalarCurve::Constant(_) => CurveDomain::constant(),
-        ScalarCurve::Samples(l, _) => CurveDomain::samples(l.start, l.end, l.length as u16),
+        ScalarCurve::Samples(l, _) => CurveDomain::samples(l.start, l.end, l.length),
     }
 }
 
@@ -204,7 +207,7 @@ pub enum Resampling {
 }
 
 // Three curves resampled into a lent slice, from a place onward.
-pub fn resample(s: &[u8], a: AxisCurves, default: f64, out: &mut [f64], place: usize) -> Resampling
+fn resample(s: &[u8], a: AxisCurves, default: f64, out: &mut [f64], place: usize) -> Resampling
     requires { ⌜ InsideAxes (now s) a ⌝ }
     ensures { λ r. ⌜ (resamplingMeans r (now (out .exit)) ≡ spec.resample default (axisCurves (now (s .entry)) a) (now (out .entry)) place) × (now (out .exit) ≡ sliceOf (now (out .entry)) (spec.resample default (axisCurves (now (s .entry)) a) (now (out .entry)) place)) ⌝ }
 {
@@ -231,5 +234,29 @@ pub fn resample(s: &[u8], a: AxisCurves, default: f64, out: &mut [f64], place: u
             end_frame,
             frames,
         },
+    }
+}
+
+// An object's translation or scale, each with the value where a curve is missing. The curves are resampled where they stand: chosen first, they
+// would be copied.
+pub fn resample_triple(
+    s: &[u8],
+    c: TRSCurves,
+    which: Triple,
+    out: &mut [f64],
+    place: usize,
+) -> Resampling
+    requires { ⌜ InsideAxes (now s) (curvesOf which c) ⌝ }
+    ensures { λ r. ⌜ (resamplingMeans r (now (out .exit)) ≡ spec.resample (defaultOf (tripleMeans which)) (axisCurves (now (s .entry)) (curvesOf which c)) (now (out .entry)) place) × (now (out .exit) ≡ sliceOf (now (out .entry)) (spec.resample (defaultOf (tripleMeans which)) (axisCurves (now (s .entry)) (curvesOf which c)) (now (out .entry)) place)) ⌝ }
+{
+    match which {
+        Triple::Translation => {
+            let curves = c.trans;
+            resample(s, curves, 0.0, out, place)
+        }
+        Triple::Scale => {
+            let curves = c.scale;
+            resample(s, curves, 1.0, out, place)
+        }
     }
 }

@@ -4,18 +4,18 @@ mod opened;
 use crate::opened::ObjectOpen;
 use crate::opened::open_object;
 use animation::Triple;
+use animation::curves_of;
 use calls::MatrixAnswer;
 use gltf::Resampling;
+use gltf::resample_triple;
 use trs::CurveRecord;
 use trs::RotationAnswer;
 use trs::object_at;
 use trs::record_axis;
 use trs::record_rotation;
 use trs::sample_at;
-use trs::triple_at;
 ghost use mathlib.Core.Path.{_≡_};
 ghost use Rattle.util.specs.Reader.{told};
-ghost use Rattle.animation.specs.Animation.{defaultOf};
 ghost use Rattle.animation.specs.AnimationCode.{tripleMeans};
 ghost use Rattle.trs.specs.TrsCode.{curveMeans, rotationAnswerMeans};
 ghost use Rattle.gltf.specs.CurveCode.{resamplingMeans};
@@ -47,7 +47,8 @@ pub fn curve(s: &[u8], entry: usize, object: usize, which: Triple, axis: usize) 
         ObjectOpen::Refused(n) => CurveRecord::Refused(n),
         ObjectOpen::At(off, a) => {
             let here = &s[off..];
-            record_axis(here, triple_at(here, a, object, which), axis, off)
+            let c = object_at(here, a, object);
+            record_axis(here, curves_of(which, c), axis, off)
         }
     }
 }
@@ -67,16 +68,6 @@ pub fn rotation_curve(s: &[u8], entry: usize, object: usize) -> RotationAnswer
     }
 }
 
-// The value where a curve of the triple is missing.
-fn default_of(which: Triple) -> f64
-    ensures { λ r. ⌜ r ≡ defaultOf (tripleMeans which) ⌝ }
-{
-    match which {
-        Triple::Translation => 0.0,
-        Triple::Scale => 1.0,
-    }
-}
-
 // An object's translation or scale, resampled onto the common frames of its three curves into a lent slice, from a place onward: x, y, z for
 // each frame.
 pub fn resample(
@@ -93,8 +84,7 @@ pub fn resample(
         ObjectOpen::Refused(n) => Resampling::Refused(n),
         ObjectOpen::At(off, a) => {
             let here = &s[off..];
-            let curves = triple_at(here, a, object, which);
-            gltf::resample(here, curves, default_of(which), out, place)
+            resample_triple(here, object_at(here, a, object), which, out, place)
         }
     }
 }

@@ -57,8 +57,7 @@ pub fn read_channel(s: &[u8], track: usize, n: usize, reach: usize) -> ChannelRe
     }
     let frames = word16(s, at);
     let place = word32(s, at + 4) as usize;
-    let length = frames as usize;
-    let end = place + 2 * length;
+    let end = place + 2 * frames as usize;
     if s.len() < end {
         return ChannelRead::Refused(2);
     }
@@ -68,7 +67,7 @@ pub fn read_channel(s: &[u8], track: usize, n: usize, reach: usize) -> ChannelRe
                 start: 0,
                 end: frames,
                 place,
-                length,
+                length: frames,
                 size: 2,
             },
             Number::Fix1_10_5,

@@ -8,9 +8,12 @@ use lib.ListN.{length, take, drop, getD, length-map}
 use Rattle.util.specs.Bits.{bits}
 use Rattle.util.specs.Fixed.{fix1-3-12, fixed}
 use Rattle.util.specs.View.{little, wordAt, view}
+use Rattle.util.specs.declared.cur.Reach.{Reach}
+use Rattle.util.specs.declared.cur.Reach.the-variants.{Whole, Refused}
 use Rattle.util.specs.Reader.{Reader, accepted, run}
+use Rattle.util.specs.ReaderCode.{reached}
 use Rattle.util.proofs.Each.{each-read}
-use Rattle.util.proofs.ReadsLaws.{known}
+use Rattle.util.proofs.ReadsLaws.{not-both}
 use Rattle.util.proofs.ViewLaws.{map-at, view-length, view-there, word-part}
 use Rattle.matrix.specs.declared.Mat3.{Mat3}
 use Rattle.rotation.specs.Rotation.{pivotMat, basisMat}
@@ -45,16 +48,12 @@ module _ (s : List ℕ) (a : Known) (w : WholeAnimation s a) (o : ℕ) (h : o < 
   here : ObjectReads (at s (wordAt 2 s (20 + 2 * o))) (tablesAt s) s 0 r
   here = subst (λ (x : ℕ). ObjectReads (at s x) (tablesAt s) s 0 r) e (subst (λ (t : Tables). ObjectReads (object (t .pivot) (t .basis) p) t s 0 r) (w .tables) q)
 
-  pub object-read : (c : TRSCurves) (m : ℕ) → r ≡ ObjectRead.Whole c m → ObjectStands s o c
-  object-read c m k = let x = known k here in record { reach = m; reads = x .reads; inside = x .holds }
-
-  pub never-refused : (n : ℕ) → r ≡ ObjectRead.Refused n → ⊥
-  never-refused n k =
-      let x = known k here in
-      let e = x .reads in
-      let y = object-whole s a w o stillObject h in
-      let z : _≡_ {A = ℕ} 0 1 = cc in
-      omega arith
+  pub object-read : ObjectStands s o (r .curves)
+  object-read = go (r .reach) (here .reads)
+    where
+      go : (x : Reach) → run (at s (wordAt 2 s (20 + 2 * o))) s 0 ≡ reached x (objectCurves (tablesAt s) s (r .curves)) → ObjectStands s o (r .curves)
+      go (Whole m) e = record { reach = m; reads = e; inside = here .holds }
+      go (Refused n) e = absurd (not-both (object-whole s a w o stillObject h .1) e)
 
 -- ---- rotations
 

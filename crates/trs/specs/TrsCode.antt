@@ -10,11 +10,9 @@ use Rattle.util.specs.Reader.{accepted, run, Verdict, answered, denied, given}
 use Rattle.matrix.specs.declared.Mat3.{Mat3}
 use Rattle.curve.specs.Curve.{none, Recorded, noCurve, always, listed, recorded}
 use Rattle.curve.specs.CurveCode.{listMeans, recordMeans}
-use Rattle.animation.specs.declared.AxisCurves.{AxisCurves}
 use Rattle.animation.specs.declared.TRSCurves.{TRSCurves}
-use Rattle.animation.specs.declared.Triple.{Triple}
 use Rattle.animation.specs.Animation.{Axes, object}
-use Rattle.animation.specs.AnimationCode.{tablesAt, objectCurves, curvesOf, InsideObject}
+use Rattle.animation.specs.AnimationCode.{tablesAt, objectCurves, InsideObject}
 use Rattle.trs.specs.declared.CurveRecord.{CurveRecord}
 use Rattle.trs.specs.declared.CurveRecord.the-variants as curve-record
 use Rattle.trs.specs.declared.RotationRecord.{RotationRecord}
@@ -27,12 +25,6 @@ pub record ObjectStands (s : List ℕ) (o : ℕ) (c : TRSCurves) : Type 0 where
   pub reach : ℕ
   pub reads : run (object (wordAt 4 s 12) (wordAt 4 s 16) (wordAt 2 s (20 + 2 * o))) s 0 ≡ accepted reach (objectCurves (tablesAt s) s c)
   pub inside : InsideObject (tablesAt s) s c
-
--- its translation or its scale
-pub record TripleStands (s : List ℕ) (o : ℕ) (which : Triple) (a : AxisCurves) : Type 0 where
-  pub curves : TRSCurves
-  pub stands : ObjectStands s o curves
-  pub is : a ≡ curvesOf which curves
 
 -- ---- the answers, by the cases of the code's enums
 

@@ -1,16 +1,11 @@
 // The curves of an animation's object, and their records.
 use animation::Animation;
 use animation::AxisCurves;
-use animation::ObjectRead;
-use animation::Referred;
 use animation::RotationCurve;
 use animation::TRSCurves;
 use animation::Tables;
-use animation::Triple;
-use animation::curves_of;
 use animation::read_object;
 use animation::refer;
-use animation::still_curves;
 use curve::SampleList;
 use curve::ScalarRecord;
 use curve::lerp_mat;
@@ -37,25 +32,15 @@ ghost use Rattle.matrix.specs.declared.Mat3 as mat3;
 ghost use Rattle.matrix.specs.Matrix.{identity3};
 ghost use Rattle.animation.specs.Animation.{pivotOf, basisOf, axesAt, matrixAt};
 ghost use Rattle.animation.specs.AnimationCode.{WholeAnimation, matrixFor, referenceEnd, references, rotationCurve, axisCurves, objectCurves, InsideAxes, InsideReferences, InsideRotation, InsideObject};
-ghost use Rattle.trs.specs.TrsCode.{ObjectStands, TripleStands, curveMeans, rotationRecordMeans, recordedAxis};
+ghost use Rattle.trs.specs.TrsCode.{ObjectStands, curveMeans, rotationRecordMeans, recordedAxis};
 
 // The curves of object o of a whole entry.
 pub fn object_at(s: &[u8], a: Animation, o: usize) -> TRSCurves
     requires { ⌜ WholeAnimation (now s) a × (o < a .objects) ⌝ }
     ensures { λ r. ⌜ ObjectStands (now (s .entry)) o r ⌝ }
 {
-    match read_object(s, a.tables, word16(s, 20 + 2 * o) as usize, 0) {
-        ObjectRead::Whole(c, _) => c,
-        ObjectRead::Refused(_) => still_curves(),
-    }
-}
-
-// Its translation or its scale alone.
-pub fn triple_at(s: &[u8], a: Animation, o: usize, which: Triple) -> AxisCurves
-    requires { ⌜ WholeAnimation (now s) a × (o < a .objects) ⌝ }
-    ensures { λ r. ⌜ TripleStands (now (s .entry)) o which r ⌝ }
-{
-    curves_of(which, object_at(s, a, o))
+    let r = read_object(s, a.tables, word16(s, 20 + 2 * o) as usize, 0);
+    r.curves
 }
 
 pub enum CurveRecord {
@@ -129,10 +114,11 @@ fn matrix_of(s: &[u8], t: Tables, x: u16) -> Mat3
     requires { ⌜ referenceEnd t x ≤ length (now s) ⌝ }
     ensures { λ r. ⌜ r ≡ matrixFor t (now (s .entry)) x ⌝ }
 {
-    match refer(t, x) {
-        Referred::Pivot(place) => pivot_at(s, place),
-        Referred::Basis(place) => basis_at(s, place),
+    let r = refer(t, x);
+    if r.pivot {
+        return pivot_at(s, r.place);
     }
+    basis_at(s, r.place)
 }
 
 // A rotation curve's record, in an entry that stands at `entry`.
@@ -164,7 +150,7 @@ fn sample_rotations(s: &[u8], t: Tables, l: SampleList, frame: u16) -> Mat3
         return rotation_value(s, t, l, 0);
     }
     if l.end - 1 <= frame {
-        return rotation_value(s, t, l, l.length - 1);
+        return rotation_value(s, t, l, l.length as usize - 1);
     }
     let p = locate(l.start, l.end, frame, l.length as u64);
     let lo = rotation_value(s, t, l, p.lo as usize);

@@ -11,6 +11,11 @@ abbrev pub reachOf : {A : Type 0} → Outcome A → Reach
 reachOf (accepted m a) = Whole m
 reachOf (refused n) = Refused n
 
+-- and back: the outcome of an answer that reaches so far
+abbrev pub reached : {A : Type 0} → Reach → A → Outcome A
+reached (Whole m) a = accepted m a
+reached (Refused n) a = refused n
+
 -- x is the code's answer for the reader r on the bytes s, after parts that reach as far as `reach`: `means` says which outcome each case of
 -- the answer stands for, and `Holds` what is known of it besides.
 pub record Reads {A X : Type 0} (means : X → Outcome A) (Holds : X → Type 0) (r : Reader A) (s : List ℕ) (reach : ℕ) (x : X) : Type 0 where

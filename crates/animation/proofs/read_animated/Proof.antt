@@ -4,6 +4,7 @@ use native.Mathlib.Omega.{arith}
 use Rattle.util.specs.Reader.{run}
 use Rattle.util.proofs.ReadsLaws.{known, goes-on, stops}
 use Rattle.animation.specs.Animation.{animated}
+use Rattle.animation.proofs.ObjectLaws.{object-refused}
 use borrow.Author.Needs.{needs}
 use Rattle.animation.proofs.read_animated.Statement.{statement}
 use Rattle.animation.proofs.read_animated.Tie as tie
@@ -16,22 +17,22 @@ read-animated-axes-requires-2 c κs = let j = c .before in let k = j .before .be
 
 returns : tie.Need-returns
 unfolding animated
-returns c = record { reads = stops _ _ _ _ _ (known (c .before .n .given .1) (c .before .before .before .read-animated-axes .ensures) .reads); holds = tt }
+returns c = let k = c .before .before in object-refused (c .refused-object .ensures) (stops _ _ _ _ _ (known (k .n .given .1) (k .before .before .read-animated-axes .ensures) .reads))
 
 returns-2 : tie.Need-returns-2
 unfolding animated
 returns-2 c =
-    let j = c .before in
+    let j = c .before .before in
     let k = j .before .before .before .before in
-    record { reads = goes-on _ _ _ _ _ _ (known (k .trans .given .1) (k .before .before .read-animated-axes .ensures) .reads) ∙ stops _ _ _ _ _ (known (j .n2 .given .1) (j .before .before .read-animated-rotation .ensures) .reads); holds = tt }
+    object-refused (c .refused-object2 .ensures) (goes-on _ _ _ _ _ _ (known (k .trans .given .1) (k .before .before .read-animated-axes .ensures) .reads) ∙ stops _ _ _ _ _ (known (j .n2 .given .1) (j .before .before .read-animated-rotation .ensures) .reads))
 
 returns-3 : tie.Need-returns-3
 unfolding animated
 returns-3 c =
-    let i = c .before in
+    let i = c .before .before in
     let j = i .before .before .before .before in
     let k = j .before .before .before .before in
-    record { reads = goes-on _ _ _ _ _ _ (known (k .trans .given .1) (k .before .before .read-animated-axes .ensures) .reads) ∙ (goes-on _ _ _ _ _ _ (known (j .rotation .given .1) (j .before .before .read-animated-rotation .ensures) .reads) ∙ stops _ _ _ _ _ (known (i .n3 .given .1) (i .before .before .read-animated-axes2 .ensures) .reads)); holds = tt }
+    object-refused (c .refused-object3 .ensures) (goes-on _ _ _ _ _ _ (known (k .trans .given .1) (k .before .before .read-animated-axes .ensures) .reads) ∙ (goes-on _ _ _ _ _ _ (known (j .rotation .given .1) (j .before .before .read-animated-rotation .ensures) .reads) ∙ stops _ _ _ _ _ (known (i .n3 .given .1) (i .before .before .read-animated-axes2 .ensures) .reads)))
 
 returns-4 : tie.Need-returns-4
 unfolding animated run
@@ -53,12 +54,15 @@ read-animated-spec =
     (tie.spec
     (λ c κs. search needs)
     (λ c. search needs)
+    (λ c κs. search needs)
     (λ c. search needs)
     read-animated-rotation-requires
     (λ c. search needs)
+    (λ c κs. search needs)
     (λ c. search needs)
     read-animated-axes-requires-2
     (λ c. search needs)
+    (λ c κs. search needs)
     (λ c. search needs)
     returns
     returns-2

@@ -31,6 +31,8 @@ read-values-spec =
     (tie.spec
     (λ c κs. search needs)
     (λ c κs. search needs)
+    (λ c. search needs)
+    (λ c. search needs)
     mul-end
     add-end
     returns

@@ -1,13 +1,7 @@
 -- `animation::sample_list` meets its contract. Assumes nothing.
-use Prim.Native.Nat.{_-_, _^_}
-use native.Mathlib.Nat.{div-le-self}
-use native.Mathlib.Omega.{arith}
 use borrow.Author.Needs.{needs}
 use Rattle.animation.proofs.sample_list.Statement.{statement}
 use Rattle.animation.proofs.sample_list.Tie as tie
-
-cast-length-2 : tie.Need-cast-length-2
-cast-length-2 c = omega (arith, div-le-self (c .before .bits322 .result - c .before .before .bits32 .result) (2 ^ c .bits323 .result))
 
 returns : tie.Need-returns
 returns c = cc
@@ -24,5 +18,4 @@ sample-list-spec =
     (λ c κs. search needs)
     (λ c. search needs)
     (λ c. search needs)
-    cast-length-2
     returns)

@@ -34,14 +34,14 @@ returns-2 c default =
 
 value-requires-3 : tie.Need-value-requires-3
 value-requires-3 c κs =
-    let z = c .before .before .before .before .before .before in
+    let z = c .before .before .before .before .before .before .before in
     let a = z .args in
     value-inside (a .s .now) (a .l) (a .number) (z .pre .0) _ (omega arith)
 
 value-requires-4 : tie.Need-value-requires-4
 value-requires-4 c κs =
     let p = c .before in
-    let z = p .before .before .before .before .before .before in
+    let z = p .before .before .before .before .before .before .before in
     let a = z .args in
     value-inside (a .s .now) (a .l) (a .number) (z .pre .0) _ (p .locate .ensures .2)
 
@@ -50,7 +50,7 @@ returns-3 c default =
     let hi = c .before in
     let lo = hi .before in
     let p = lo .before in
-    let t = p .before in
+    let t = p .before .before in
     let f = t .before .before in
     let z = f .before .before .before in
     let a = z .args in
@@ -66,8 +66,10 @@ sample-list-spec =
     returns
     (λ c. search needs)
     (λ c. search needs)
+    (λ c. search needs)
     value-requires-2
     returns-2
+    (λ c. search needs)
     (λ c κs. search needs)
     value-requires-3
     value-requires-4

@@ -20,11 +20,8 @@ listed c =
     let z = c .before .before .before in
     (subst (Inside (z .args .s .now)) (c .c .given .1) (z .pre .0), list-counts (z .args .s .now) (z .args .c) _ _ (c .c .given .1) (z .pre .1))
 
-cast-samples : tie.Need-cast-samples
-cast-samples c = let h = listed (c .before .before) in omega arith
-
 samples-requires : tie.Need-samples-requires
-samples-requires c κs = let h = listed (c .before .before) in (omega arith, h .1)
+samples-requires c κs = let h = listed (c .before) in (omega arith, h .1)
 
 returns : tie.Need-returns
 unfolding domain
@@ -35,7 +32,7 @@ returns-2 c = domain-as _ _ _ (c .before .enum-told2 .given .1) _ (constant-doma
 
 returns-3 : tie.Need-returns-3
 returns-3 c =
-    let k = c .before .before .before in
+    let k = c .before .before in
     let h = listed k in
     domain-as _ _ _ (k .c .given .1) _ (list-domain _ _ _ (h .0) (h .1) _ (c .samples .ensures))
 
@@ -47,7 +44,6 @@ domain-spec =
     (λ c. search needs)
     (λ c κs. search needs)
     (λ c. search needs)
-    cast-samples
     samples-requires
     returns
     returns-2

@@ -32,8 +32,8 @@ part-here-start c =
     let h = w .start in
     search needs
 
-triple-at-requires : tie.Need-triple-at-requires
-triple-at-requires c κs =
+object-at-requires : tie.Need-object-at-requires
+object-at-requires c κs =
     let b = c .before .before in
     let a = b .before .before .before .before .args in
     let w = subst (ObjectOpens (a .s .now) (a .entry) (a .object)) (b .off .given .1) (b .before .before .open-object .ensures) in
@@ -41,14 +41,13 @@ triple-at-requires c κs =
 
 record-axis-requires : tie.Need-record-axis-requires
 record-axis-requires c κs =
-    let b = c .before .before .before in
+    let b = c .before .before .before .before in
     let a = b .before .before .before .before .args in
     let w = subst (ObjectOpens (a .s .now) (a .entry) (a .object)) (b .off .given .1) (b .before .before .open-object .ensures) in
-    let t = c .triple-at .ensures in
     let l = onward-end (a .s .now) (b .off .given .0 .0) (w .start) in
     let e = onward (b .off .given .0 .0) (a .s .now) in
     let n = ap length e in
-    (rw (t .is) (triple-inside _ _ _ (inside-here (a .s .now) (a .entry) (a .object) _ _ w _ e _ (t .stands)) (a .which)), omega (arith, b .before .before .before .before .good .0))
+    (rw (c .curves-of .ensures) (triple-inside _ _ _ (inside-here (a .s .now) (a .entry) (a .object) _ _ w _ e _ (c .before .object-at .ensures)) (a .which)), omega (arith, b .before .before .before .before .good .0))
 
 returns : tie.Need-returns
 returns c =
@@ -60,15 +59,15 @@ returns c =
 returns-2 : tie.Need-returns-2
 unfolding askObject
 returns-2 c =
-    let t = c .before .triple-at .ensures in
-    let b = c .before .before .before .before in
+    let k = c .before .before in
+    let b = k .before .before .before in
     let a = b .before .before .before .before .args in
     let w = subst (ObjectOpens (a .s .now) (a .entry) (a .object)) (b .off .given .1) (b .before .before .open-object .ensures) in
-    let q = told-here (a .s .now) (a .entry) (a .object) _ _ w _ (onward _ (a .s .now)) _ (t .stands) (curve (tripleMeans (a .which)) (a .axis)) in
+    let q = told-here (a .s .now) (a .entry) (a .object) _ _ w _ (onward _ (a .s .now)) _ (k .object-at .ensures) (curve (tripleMeans (a .which)) (a .axis)) in
     let l : List ℕ = take (length (a .s .now) - b .off .given .0 .0) (drop (b .off .given .0 .0) (a .s .now)) in
     c .record-axis .ensures
-    ∙ (ap (λ (x : AxisCurves). recordedAxis (axisCurves l x) (a .axis) (b .off .given .0 .0)) (t .is)
-    ∙ (ap (λ (x : Axes). recordedAxis x (a .axis) (b .off .given .0 .0)) (sym (triple-axes (b .off .given .0 .1 .0 .tables) l (t .curves) (a .which))) ∙ sym q))
+    ∙ (ap (λ (x : AxisCurves). recordedAxis (axisCurves l x) (a .axis) (b .off .given .0 .0)) (c .before .curves-of .ensures)
+    ∙ (ap (λ (x : Axes). recordedAxis x (a .axis) (b .off .given .0 .0)) (sym (triple-axes (b .off .given .0 .1 .0 .tables) l (k .object-at .result) (a .which))) ∙ sym q))
 
 pub curve-spec : {M : Type 1} → statement M
 curve-spec =
@@ -80,7 +79,8 @@ curve-spec =
     sub-here
     part-here-start
     (λ c. search needs)
-    triple-at-requires
+    object-at-requires
+    (λ c κs. search needs)
     record-axis-requires
     returns
     returns-2)

@@ -2,11 +2,9 @@
 use Prim.Native.Nat.{ℕ, _-_}
 use mathlib.Core.List.{List}
 use mathlib.Core.Path.{sym, ap, subst, _∙_}
-use lib.Ieee.{Float}
 use lib.ListN.{length, take, drop}
-use Rattle.animation.specs.declared.AxisCurves.{AxisCurves}
-use Rattle.animation.specs.Animation.{Axes, axesOf}
-use Rattle.animation.specs.AnimationCode.{tripleMeans, axisCurves, objectCurves}
+use Rattle.animation.specs.Animation.{Axes, defaultOf}
+use Rattle.animation.specs.AnimationCode.{tripleMeans}
 use Rattle.animation.proofs.ObjectLaws.{triple-inside, triple-axes}
 use Rattle.gltf.specs.Curve.{resample, sliceOf}
 use Rattle.calls.specs.Calls.{resampled, askObject}
@@ -32,21 +30,20 @@ part-here-start c =
     let h = w .start in
     search needs
 
-triple-at-requires : tie.Need-triple-at-requires
-triple-at-requires c κs =
+object-at-requires : tie.Need-object-at-requires
+object-at-requires c κs =
     let b = c .before .before in
     let a = b .before .before .before .before .before .args in
     let w = subst (ObjectOpens (a .s .now) (a .entry) (a .object)) (b .off .given .1) (b .before .before .open-object .ensures) in
     entry-here (a .s .now) (a .entry) (a .object) _ _ w _ (onward _ (a .s .now))
 
-resample-requires : tie.Need-resample-requires
-resample-requires c κs =
-    let k = c .before .before in
+resample-triple-requires : tie.Need-resample-triple-requires
+resample-triple-requires c κs =
+    let k = c .before in
     let b = k .before .before .before in
     let a = b .before .before .before .before .before .args in
     let w = subst (ObjectOpens (a .s .now) (a .entry) (a .object)) (b .off .given .1) (b .before .before .open-object .ensures) in
-    let t = k .triple-at .ensures in
-    rw (t .is) (triple-inside _ _ _ (inside-here (a .s .now) (a .entry) (a .object) _ _ w _ (onward _ (a .s .now)) _ (t .stands)) (a .which))
+    triple-inside _ _ _ (inside-here (a .s .now) (a .entry) (a .object) _ _ w _ (onward _ (a .s .now)) _ (k .object-at .ensures)) (a .which)
 
 returns : tie.Need-returns
 returns c =
@@ -60,19 +57,16 @@ returns-2 : tie.Need-returns-2
 unfolding askObject
 returns-2 c =
     let r = c .before .before in
-    let d = r .before .before in
-    let k = d .before in
+    let k = r .before .before in
     let b = k .before .before .before in
     let a = b .before .before .before .before .before .args in
     let w = subst (ObjectOpens (a .s .now) (a .entry) (a .object)) (b .off .given .1) (b .before .before .open-object .ensures) in
-    let t = k .triple-at .ensures in
-    let q = told-here (a .s .now) (a .entry) (a .object) _ _ w _ (onward _ (a .s .now)) _ (t .stands) (resampled (tripleMeans (a .which)) (a .out .now) (a .place)) in
+    let q = told-here (a .s .now) (a .entry) (a .object) _ _ w _ (onward _ (a .s .now)) _ (k .object-at .ensures) (resampled (tripleMeans (a .which)) (a .out .now) (a .place)) in
     let l : List ℕ = take (length (a .s .now) - b .off .given .0 .0) (drop (b .off .given .0 .0) (a .s .now)) in
     let e =
-    ap (λ (x : AxisCurves). resample (d .default-of .result) (axisCurves l x) (a .out .now) (a .place)) (t .is)
-    ∙ (ap (λ (x : Axes). resample (d .default-of .result) x (a .out .now) (a .place)) (sym (triple-axes (b .off .given .0 .1 .0 .tables) l (t .curves) (a .which)))
-    ∙ (ap (λ (x : Float). resample x (axesOf (tripleMeans (a .which)) (objectCurves (b .off .given .0 .1 .0 .tables) l (t .curves))) (a .out .now) (a .place)) (d .default-of .ensures) ∙ sym q)) in
-    (r .resample .ensures .0 ∙ e, r .resample .ensures .1 ∙ ap (sliceOf (a .out .now)) e)
+    ap (λ (x : Axes). resample (defaultOf (tripleMeans (a .which))) x (a .out .now) (a .place)) (sym (triple-axes (b .off .given .0 .1 .0 .tables) l (k .object-at .result) (a .which)))
+    ∙ sym q in
+    (r .resample-triple .ensures .0 ∙ e, r .resample-triple .ensures .1 ∙ ap (sliceOf (a .out .now)) e)
 
 pub resample-spec : {M : Type 1} → statement M
 resample-spec =
@@ -84,9 +78,8 @@ resample-spec =
     sub-here
     part-here-start
     (λ c. search needs)
-    triple-at-requires
-    (λ c κs. search needs)
-    resample-requires
+    object-at-requires
+    resample-triple-requires
     returns
     (λ c. search needs)
     returns-2)

@@ -27,7 +27,7 @@ returns-3 c =
     let hi = c .before in
     let lo = hi .before in
     let p = lo .before in
-    let t = p .before in
+    let t = p .before .before in
     let f = t .before .before in
     let z = f .before .before .before in
     let a = z .args in
@@ -41,8 +41,10 @@ sample-rotations-spec =
     returns
     (λ c. search needs)
     (λ c. search needs)
+    (λ c. search needs)
     (λ c κs. search needs)
     returns-2
+    (λ c. search needs)
     (λ c κs. search needs)
     (λ c κs. search needs)
     (λ c κs. search needs)
