@@ -9,7 +9,6 @@ use lib.Dec.{eqb, leb}
 use lib.ListN.{length, take, drop}
 use Rattle.util.specs.declared.cur.Reach.{Reach}
 use Rattle.util.specs.declared.cur.Reach.the-variants.{Whole, Refused}
-use Rattle.animation.specs.declared.Animation.{Animation as Known}
 use Rattle.animation.specs.declared.ObjectRead.{ObjectRead}
 use Rattle.animation.specs.declared.Tables.{Tables}
 use Rattle.animation.specs.declared.TRSCurves.{TRSCurves}
@@ -24,6 +23,7 @@ use Rattle.util.proofs.Each.{whole-of, refused-of, from-zero, each-read}
 use Rattle.util.proofs.Calls.{after, run-bind}
 use Rattle.animation.specs.Animation.{Object, stillObject, axesOf, animated, object, Animation, animationStamp, mostObjects, animation}
 use Rattle.animation.specs.AnimationCode.{tripleMeans, axisCurves, InsideAxes, objectCurves, InsideObject, ObjectReads, stillCurves, refusedObject, curvesOf, tablesAt, objectsAt, WholeAnimation}
+use Rattle.animation.proofs.RotationLaws.{both-words}
 
 -- ---- an object: its flags and two bytes, then what the flags say
 
@@ -39,9 +39,6 @@ module _ (pivot basis p m : ℕ) (s : List ℕ) where
   unfolding run bind object
   flags-read h =
       had _ _ _ _ (omega arith) (had _ _ _ _ (omega arith) (ap (run (by (bit (wordAt 2 s p) 0) (wordAt 2 s p)) s) (both-words p m)))
-    where
-      both-words : (p m : ℕ) → max (max m (p + 2)) (p + 2 + 2) ≡ max m (p + 4)
-      both-words p m = omega arith
 
   pub by-flags : p + 4 ≤ length s → (flags : ℕ) → flags ≡ wordAt 2 s p → (far : ℕ) → far ≡ max m (p + 4) → (b : Bool) → b ≡ bit flags 0 → run (object pivot basis p) s m ≡ run (by b flags) s far
   by-flags h flags e far g b q =

@@ -29,47 +29,18 @@ use Rattle.curve.specs.Curve.{Curve, constant, samples}
 use Rattle.curve.specs.CurveCode.{listMeans}
 use Rattle.animation.specs.Animation.{startOf, endOf, valuesOf, listOf, Referred, pivotRecord, basisRecord, referred, reference, rotationList, rotation}
 use Rattle.animation.specs.AnimationCode.{codeList, referredMeans, referenceEnd, matrixFor, RotationReads}
-use Rattle.animation.proofs.ScalarLaws.{values-le}
+
+-- the reach after two words side by side
+pub both-words : (p m : ℕ) → max (max m (p + 2)) (p + 2 + 2) ≡ max m (p + 4)
+both-words p m = omega arith
 
 -- ---- references
 
--- an index below two, by the bit that it is
-pub lookup-bound : (x j : ℕ) → j ≡ bits x 15 16 → j < 2
-lookup-bound x j e = subst (λ (k : ℕ). k < 2) (sym e) (mod-lt _ (pow-pos 1))
-
--- what bit 15 looks up in an array of two
+-- what a bit looks up in an array of two
 looked : (p b j : ℕ) → j < 2 → getD (b ∷ p ∷ []) j 0 ≡ cond (eqb j 1) p b
 looked p b zero l = refl
 looked p b (suc zero) l = refl
 looked p b (suc (suc j)) l = absurd (omega arith)
-
-module _ (pivot basis x j : ℕ) (e : j ≡ bits x 15 16) where
-  abbrev sized : ℕ
-  sized = getD (10 ∷ 6 ∷ []) j 0
-
-  abbrev placed : ℕ → ℕ
-  placed i = getD (basis ∷ pivot ∷ []) j 0 + sized * i
-
-  by-bit : (p b : ℕ) → getD (b ∷ p ∷ []) j 0 ≡ cond (bit x 15) p b
-  by-bit p b = looked p b j (lookup-bound x j e) ∙ ap (λ (k : ℕ). cond (eqb k 1) p b) e
-
-  -- a record stands where its data's place and its number say
-  pub refers : (y : Bool) → y ≡ bit x 15 → (i : ℕ) → i ≡ bits x 0 15 → (cond y (pivotRecord (placed i)) (basisRecord (placed i)) ≡ referred pivot basis x) × (sized ≡ referred pivot basis x .size)
-  unfolding referred
-  refers y q i g = go (bit x 15) (by-bit pivot basis) (by-bit 6 10) y q
-    where
-      go : (z : Bool) → getD (basis ∷ pivot ∷ []) j 0 ≡ cond z pivot basis → sized ≡ cond z 6 10 → (y : Bool) → y ≡ z → (cond y (pivotRecord (placed i)) (basisRecord (placed i)) ≡ cond z (pivotRecord (pivot + 6 * bits x 0 15)) (basisRecord (basis + 10 * bits x 0 15))) × (sized ≡ cond z (pivotRecord (pivot + 6 * bits x 0 15)) (basisRecord (basis + 10 * bits x 0 15)) .size)
-      go true d n y h = rw h (rw d (rw n (rw g (refl, refl))))
-      go false d n y h = rw h (rw d (rw n (rw g (refl, refl))))
-
-  -- and its place does not wrap
-  pub place-small : pivot < 4294967296 → basis < 4294967296 → (i : ℕ) → i ≡ bits x 0 15 → placed i < 8589934592
-  place-small p b i g = go j (lookup-bound x j e) (subst (λ (n : ℕ). n < 32768) (sym g) (mod-lt _ (pow-pos 15)))
-    where
-      go : (k : ℕ) → k < 2 → i < 32768 → getD (basis ∷ pivot ∷ []) k 0 + getD (10 ∷ 6 ∷ []) k 0 * i < 8589934592
-      go zero l h = omega arith
-      go (suc zero) l h = omega arith
-      go (suc (suc k)) l h = absurd (omega arith)
 
 module _ (t : Tables) (x : ℕ) where
   -- no record's end wraps
@@ -88,6 +59,28 @@ module _ (t : Tables) (x : ℕ) where
       go : (y : Bool) (p : ℕ) → p ≡ cond y (pivotRecord p) (basisRecord p) .place
       go true p = refl
       go false p = refl
+
+  -- both looked up by bit 15
+  module _ (j : ℕ) (e : j ≡ bits x 15 16) (y : Bool) (q : y ≡ bit x 15) (i : ℕ) (g : i ≡ bits x 0 15) where
+    abbrev sized : ℕ
+    sized = getD (10 ∷ 6 ∷ []) j 0
+
+    abbrev placed : ℕ
+    placed = getD (t .basis ∷ t .pivot ∷ []) j 0 + sized * i
+
+    by-bit : (p b : ℕ) → getD (b ∷ p ∷ []) j 0 ≡ cond (bit x 15) p b
+    by-bit p b = looked p b j (subst (λ (k : ℕ). k < 2) (sym e) (mod-lt _ (pow-pos 1))) ∙ ap (λ (k : ℕ). cond (eqb k 1) p b) e
+
+    pub refers : (cond y (pivotRecord placed) (basisRecord placed) ≡ referred (t .pivot) (t .basis) x) × (sized ≡ referred (t .pivot) (t .basis) x .size)
+    unfolding referred
+    refers = go (bit x 15) (by-bit (t .pivot) (t .basis)) (by-bit 6 10) y q
+      where
+        go : (z : Bool) → getD (t .basis ∷ t .pivot ∷ []) j 0 ≡ cond z (t .pivot) (t .basis) → sized ≡ cond z 6 10 → (y : Bool) → y ≡ z → (cond y (pivotRecord placed) (basisRecord placed) ≡ cond z (pivotRecord (t .pivot + 6 * bits x 0 15)) (basisRecord (t .basis + 10 * bits x 0 15))) × (sized ≡ cond z (pivotRecord (t .pivot + 6 * bits x 0 15)) (basisRecord (t .basis + 10 * bits x 0 15)) .size)
+        go true d n y h = rw h (rw d (rw n (rw g (refl, refl))))
+        go false d n y h = rw h (rw d (rw n (rw g (refl, refl))))
+
+    pub looked-end : placed + sized ≡ referenceEnd t x
+    looked-end = end-of (record { pivot = y; place = placed; size = sized }) (refers .0) (refers .1)
 
 reference-run : (t : Tables) (x : ℕ) (s : List ℕ) (m : ℕ) → run (reference (t .pivot) (t .basis) x) s m ≡ ends (referenceEnd t x) (length s) (accepted (max m (referenceEnd t x)) (matrixFor t s x))
 unfolding reference run
@@ -147,9 +140,6 @@ module _ (t : Tables) (p m : ℕ) (s : List ℕ) where
       (had _ _ _ _ (omega arith)
       (ap (λ (j : ℕ). run (bind (reference (t .pivot) (t .basis) (wordAt 2 s p)) (λ v. done (constant v, p + 4))) s j) (both-words p m)
       ∙ run-bind (reference (t .pivot) (t .basis) (wordAt 2 s p)) (λ v. done (constant v, p + 4)) s (max m (p + 4))))
-    where
-      both-words : (p m : ℕ) → max (max m (p + 2)) (p + 2 + 2) ≡ max m (p + 4)
-      both-words p m = omega arith
 
   module _ (h : p + 4 ≤ length s) (x : ℕ) (e : x ≡ wordAt 2 s p) (j : ℕ) (g : j ≡ max m (p + 4)) (r : Reach) (q : r ≡ reachOf (run (reference (t .pivot) (t .basis) x) s j)) where
     here : run turned s m ≡ after (run (reference (t .pivot) (t .basis) x) s j) (λ j v. accepted j (constant v, p + 4))

@@ -1,21 +1,19 @@
 -- The runs of the readers of scalar curves, by what the section holds. Assumes nothing.
 use Prim.Native.Nat.{ℕ, _+_, _-_, _*_, _/_, _^_, max, _≤_, _<_}
-use mathlib.Core.Bool.{Bool, true, false, cond}
+use mathlib.Core.Bool.{true}
 use mathlib.Core.List.{List}
 use mathlib.Core.Path.{_≡_, refl, sym, ap, subst, _∙_}
 use native.Mathlib.Nat.{mul-le-mul, mod-lt, div-le-self, le-refl}
 use native.Mathlib.Omega.{arith}
 use borrow.Author.Tests.{le-ltb, lt-ltb}
-use lib.Dec.{eqb, lit≤}
 use lib.Ieee.{Float}
 use lib.ListN.{length, drop}
 use lib.Pow.{pow-pos}
 use Rattle.util.specs.View.{wordAt, view}
 use Rattle.util.specs.Reader.{accepted, refused, run, bind, unless}
-use Rattle.util.specs.ReaderCode.{Reads}
 use Rattle.util.proofs.Cut.{had, short, to}
 use Rattle.util.proofs.ViewLaws.{view-take}
-use Rattle.util.specs.Fixed.{Fix, fix1-19-12, fix1-3-12}
+use Rattle.util.specs.Fixed.{Fix, fix1-19-12}
 use Rattle.animation.specs.declared.ScalarRead.{ScalarRead}
 use Rattle.curve.specs.declared.SampleList.{SampleList}
 use Rattle.curve.specs.declared.ScalarCurve.{ScalarCurve}
@@ -79,22 +77,13 @@ module _ (t : Triple) (p m : ℕ) (s : List ℕ) (n : ℕ) (e : n ≡ numbersOf 
 
 -- ---- a list
 
-small-size : (t : Triple) (w : ℕ) → valueSize t w ≤ 8
-small-size t w = go t (eqb (widthOf w) 0)
-  where
-    go : (t : Triple) (b : Bool) → numberBytes (cond b fix1-19-12 fix1-3-12) * numbersOf t ≤ 8
-    go translation true = lit≤ tt
-    go translation false = lit≤ tt
-    go scale true = lit≤ tt
-    go scale false = lit≤ tt
-
 number-fits : (t : Triple) (f : Fix) → numberBytes f ≤ numberBytes f * numbersOf t
 number-fits translation f = omega arith
 number-fits scale f = omega arith
 
 -- a list's bytes do not wrap
-pub few-bytes : (z w place size : ℕ) (l : SampleList) → z ≤ 8 → l ≡ codeList w place size → z * l .length ≤ 8 * 65535
-few-bytes z w place size l h q = mul-le-mul h (subst (λ (x : SampleList). x .length ≤ 65535) (sym q) (values-le w))
+pub bytes-small : (z n : ℕ) → z ≤ 65535 → n ≤ 65535 → z * n ≤ 65535 * 65535
+bytes-small z n h k = mul-le-mul h k
 
 module _ (t : Triple) (w off next m : ℕ) (s : List ℕ) where
   abbrev end : ℕ
@@ -128,7 +117,6 @@ module _ (t : Triple) (w off next m : ℕ) (s : List ℕ) where
             ends = room;
             frames = div-le-self (endOf w - startOf w) (2 ^ rateOf w);
             wide = subst (λ (f : Fix). numberBytes f ≤ valueSize t w) (sym k) (number-fits t (formatOf (widthOf w)));
-            small = small-size t w;
           }
 
       pub code-whole : ScalarReads (scalarList t w off next) s m next (ScalarRead.Whole (ScalarCurve.Samples l n) (record { pos = next; reach = far }))

@@ -174,7 +174,7 @@ fn number_of(w: u32) -> Number
 
 // The bytes of a value of a curve word's list.
 fn value_size(which: Triple, w: u32) -> u16
-    ensures { λ r. ⌜ (r ≡ valueSize (tripleMeans which) w) × (r ≤ 8) ⌝ }
+    ensures { λ r. ⌜ r ≡ valueSize (tripleMeans which) w ⌝ }
 {
     if bits32(w, 28, 30) == 0 {
         4 * numbers(which)

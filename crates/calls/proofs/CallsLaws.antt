@@ -10,12 +10,12 @@ use Rattle.info_block.specs.InfoBlock.{Block}
 use Rattle.info_block.specs.NameCode.{OneOf}
 use Rattle.nitro.specs.declared.container.EntryAt.{EntryAt}
 use Rattle.nitro.specs.declared.container.EntryFound.{EntryFound}
-use Rattle.nitro.specs.Container.{Kind, allKinds, stamped, section, Value, value, Entry, entry, recordOf, entryOf}
+use Rattle.nitro.specs.Container.{Kind, allKinds, stamped, section, Value, value, entry, recordOf, entryOf}
 use Rattle.nitro.specs.ContainerCode.{entryFrom}
 use Rattle.nitro.specs.EntryCode.{OpenReads}
 use Rattle.calls.specs.declared.Found.{Found}
 use Rattle.calls.specs.FindingCode.{Finds}
-use Rattle.calls.specs.Calls.{Query, Reply, ask, check, find, on, reader, answer}
+use Rattle.calls.specs.Calls.{Query, ask, check, find, on, reader, answer}
 
 -- ---- calls that take all kinds
 

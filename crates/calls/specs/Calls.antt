@@ -7,13 +7,13 @@ use lib.Dec.{ltb, leb}
 use lib.ListN.{length, getD}
 use lib.Seq.{sets}
 use lib.Ieee.{Float}
-use Rattle.util.specs.Reader.{Reader, done, bind, Outcome, accepted, refused, run, Verdict, answered, denied, given, tell}
+use Rattle.util.specs.Reader.{Reader, done, bind, Outcome, run, Verdict, answered, denied, given, tell}
 use Rattle.matrix.specs.declared.Mat3.{Mat3}
 use Rattle.matrix.specs.declared.Mat4.{Mat4}
 use Rattle.matrix.specs.Matrix.{bytesOf}
 use Rattle.info_block.specs.Name.{Name, named}
 use Rattle.curve.specs.Curve.{Curve, none, Recorded, recorded}
-use Rattle.animation.specs.Animation.{Axes, Object, stillObject, Triple, axesOf, defaultOf, matrixAt}
+use Rattle.animation.specs.Animation.{Object, stillObject, Triple, axesOf, defaultOf, matrixAt}
 use Rattle.material_animation.specs.MaterialAnimation.{uvMatrixAt}
 use Rattle.pattern.specs.Pattern.{Key, Track, choice}
 use Rattle.nitro.specs.Container.{Kind, jnt, srt, pat, allKinds, stamped, section, Entry, entry, EntryRecord, recordOf, entryOf}

@@ -12,7 +12,6 @@ use Rattle.curve.specs.declared.SampleList.{SampleList}
 use Rattle.curve.specs.declared.ScalarCurve.{ScalarCurve}
 use Rattle.curve.specs.declared.ScalarCurve.the-variants.{None, Constant, Samples}
 use Rattle.curve.specs.declared.ScalarRecord.{ScalarRecord}
-use Rattle.curve.specs.declared.ScalarRecord.the-variants as scalar-record
 use Rattle.curve.specs.Curve.{ListRecord, Curve, none, constant, samples, numberBytes, numberOf, floor, ceil, ofWhole, Recorded, noCurve, always, listed}
 
 -- the places around i
@@ -42,7 +41,6 @@ pub record InsideList (s : List ℕ) (l : SampleList) (number : Number) : Type 0
   pub ends : l .place + l .size * l .length ≤ length s
   pub frames : l .length ≤ l .end - l .start
   pub wide : numberBytes (formatMeans number) ≤ l .size
-  pub small : l .size ≤ 8
 
 abbrev pub Inside : List ℕ → ScalarCurve → Type 0
 Inside s None = Unit {0}

@@ -7,7 +7,6 @@ use Rattle.util.specs.View.{littleBytes}
 use Rattle.util.specs.Reader.{Verdict, answered, denied}
 use Rattle.info_block.specs.declared.name.Name.{Name as CodeName}
 use Rattle.info_block.specs.declared.name.NameAnswer.{NameAnswer}
-use Rattle.info_block.specs.declared.name.NameAnswer.the-variants as name-answer
 use Rattle.info_block.specs.declared.name.NameFound.{NameFound}
 use Rattle.info_block.specs.declared.name.NameFound.the-variants.{At, Nothing}
 use Rattle.info_block.specs.Name.{Name}

@@ -5,7 +5,7 @@ use mathlib.Core.Path.{_≡_, refl, sym, ap, _∙_}
 use native.Mathlib.Nat.{add-assoc}
 use native.Mathlib.Omega.{arith}
 use borrow.Author.Tests.{lt-ltb, le-ltb}
-use lib.ListN.{length, take, drop, getD, length-drop}
+use lib.ListN.{length, take, drop, length-drop}
 use lib.Seq.{drop-drop}
 use Rattle.util.specs.View.{little, wordAt, view}
 use Rattle.util.specs.Reader.{Verdict, answered, denied, told}
@@ -20,7 +20,7 @@ use Rattle.nitro.specs.declared.container.EntryAt.{EntryAt}
 use Rattle.nitro.specs.Container.{pat}
 use Rattle.nitro.specs.EntryCode.{Opened}
 use Rattle.calls.specs.declared.ListAnswer.{ListAnswer}
-use Rattle.calls.specs.Calls.{Query, Reply, PatternQuery, chosen, keys, noTrack, chosenOf, askPattern, ofPattern, patternName, textureNames, paletteNames, ask, on, answer}
+use Rattle.calls.specs.Calls.{Query, PatternQuery, chosen, keys, noTrack, chosenOf, askPattern, ofPattern, patternName, textureNames, paletteNames, ask, on, answer}
 use Rattle.calls.specs.AnswersCode.{listAnswerMeans}
 use Rattle.pat.specs.PatCode.{KeysAt, KeysAre}
 use Rattle.nitro.proofs.EntryLaws.{names-end}

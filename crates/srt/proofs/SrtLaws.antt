@@ -22,7 +22,7 @@ use Rattle.nitro.specs.declared.container.EntryAt.{EntryAt}
 use Rattle.nitro.specs.Container.{srt}
 use Rattle.nitro.specs.EntryCode.{Opened}
 use Rattle.srt.specs.declared.TrackAt.{TrackAt}
-use Rattle.calls.specs.Calls.{Query, MaterialQuery, channelCurve, ofMaterial, materialName, askMaterial, ask, on, answer}
+use Rattle.calls.specs.Calls.{MaterialQuery, channelCurve, ofMaterial, materialName, askMaterial, ask, on, answer}
 use Rattle.srt.specs.SrtCode.{TrackStands}
 use Rattle.nitro.proofs.EntryLaws.{names-end}
 use Rattle.calls.proofs.CallsLaws.{asked}

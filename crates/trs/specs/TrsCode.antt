@@ -14,11 +14,8 @@ use Rattle.animation.specs.declared.TRSCurves.{TRSCurves}
 use Rattle.animation.specs.Animation.{Axes, object}
 use Rattle.animation.specs.AnimationCode.{tablesAt, objectCurves, InsideObject}
 use Rattle.trs.specs.declared.CurveRecord.{CurveRecord}
-use Rattle.trs.specs.declared.CurveRecord.the-variants as curve-record
 use Rattle.trs.specs.declared.RotationRecord.{RotationRecord}
-use Rattle.trs.specs.declared.RotationRecord.the-variants as rotation-record
 use Rattle.trs.specs.declared.RotationAnswer.{RotationAnswer}
-use Rattle.trs.specs.declared.RotationAnswer.the-variants as rotation-answer
 
 -- object o of the entry s has these curves
 pub record ObjectStands (s : List ℕ) (o : ℕ) (c : TRSCurves) : Type 0 where

@@ -6,10 +6,10 @@ use Rattle.util.specs.Bits.{bit}
 use Rattle.util.specs.Reader.{run}
 use Rattle.util.proofs.ReadsLaws.{alike}
 use Rattle.animation.specs.AnimationCode.{tripleMeans}
-use mathlib.Core.Bool.{Bool, true, false}
-use mathlib.Core.Path.{sym, ap, subst, _∙_}
+use mathlib.Core.Bool.{Bool}
+use mathlib.Core.Path.{sym, ap, _∙_}
 use Rattle.animation.specs.Animation.{scalar}
-use Rattle.animation.specs.AnimationCode.{tripleMeans, ScalarReads}
+use Rattle.animation.specs.AnimationCode.{tripleMeans}
 use borrow.Author.Needs.{needs}
 use Rattle.animation.proofs.read_axis.Statement.{statement}
 use Rattle.animation.proofs.read_axis.Tie as tie

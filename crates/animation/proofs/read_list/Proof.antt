@@ -1,7 +1,6 @@
 -- `animation::read_list` meets its contract. Assumes nothing.
-use mathlib.Core.Path.{_∙_}
 use Rattle.util.proofs.ReadsLaws.{alike, known, goes-on, stops}
-use Rattle.animation.specs.Animation.{scalar, listFields}
+use Rattle.animation.specs.Animation.{scalar}
 use borrow.Author.Needs.{needs}
 use Rattle.animation.proofs.read_list.Statement.{statement}
 use Rattle.animation.proofs.read_list.Tie as tie

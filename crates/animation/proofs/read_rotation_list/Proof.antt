@@ -1,5 +1,4 @@
 -- `animation::read_rotation_list` meets its contract. Assumes nothing.
-use mathlib.Core.Path.{_∙_}
 use Rattle.util.proofs.ReadsLaws.{alike, known, goes-on, stops}
 use Rattle.animation.specs.Animation.{rotation}
 use borrow.Author.Needs.{needs}

@@ -1,5 +1,4 @@
 -- `animation::read_tables` meets its contract. Assumes nothing.
-use mathlib.Core.Path.{_≡_}
 use borrow.Author.Needs.{needs}
 use Rattle.animation.proofs.read_tables.Statement.{statement}
 use Rattle.animation.proofs.read_tables.Tie as tie

@@ -1,5 +1,4 @@
 -- `animation::refused_object` meets its contract. Assumes nothing.
-use mathlib.Core.Path.{_≡_}
 use borrow.Author.Needs.{needs}
 use Rattle.animation.proofs.refused_object.Statement.{statement}
 use Rattle.animation.proofs.refused_object.Tie as tie

@@ -1,5 +1,4 @@
 -- `animation::still_curves` meets its contract. Assumes nothing.
-use mathlib.Core.Path.{_≡_}
 use borrow.Author.Needs.{needs}
 use Rattle.animation.proofs.still_curves.Statement.{statement}
 use Rattle.animation.proofs.still_curves.Tie as tie

@@ -1,5 +1,5 @@
 -- `curve::record_scalar` meets its contract. Assumes nothing.
-use mathlib.Core.Path.{refl, sym, ap, subst, _∙_}
+use mathlib.Core.Path.{sym, ap, subst, _∙_}
 use native.Mathlib.Omega.{arith}
 use Rattle.curve.specs.declared.ScalarCurve.{ScalarCurve}
 use Rattle.curve.specs.Curve.{recorded, always}

@@ -1,7 +1,6 @@
 -- `exports::motion_check` meets its contract. Assumes nothing.
 use mathlib.Core.Path.{sym, ap, _∙_}
 use Rattle.util.specs.Reader.{Outcome, told, number}
-use Rattle.nitro.specs.declared.entry.EntryCheck.{EntryCheck}
 use Rattle.nitro.specs.Container.{EntryRecord}
 use Rattle.nitro.specs.EntryCode.{checkMeans}
 use borrow.Author.Needs.{needs}

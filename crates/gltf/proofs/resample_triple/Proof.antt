@@ -1,5 +1,5 @@
 -- `gltf::resample_triple` meets its contract. Assumes nothing.
-use mathlib.Core.Path.{sym, subst}
+use mathlib.Core.Path.{subst}
 use lib.Ieee.{ofBits}
 use Rattle.animation.specs.declared.Triple.{Triple}
 use Rattle.animation.specs.AnimationCode.{curvesOf, InsideAxes}

@@ -1,5 +1,5 @@
 -- `pat::texture_names` meets its contract. Assumes nothing.
-use mathlib.Core.Path.{sym, ap, subst, _∙_}
+use mathlib.Core.Path.{sym, subst}
 use native.Mathlib.Omega.{arith}
 use Rattle.nitro.specs.Container.{pat}
 use Rattle.nitro.specs.EntryCode.{PatternOpens}

@@ -1,6 +1,5 @@
 -- `pat::track_name` meets its contract. Assumes nothing.
-use mathlib.Core.Path.{sym, ap, subst, _∙_}
-use native.Mathlib.Omega.{arith}
+use mathlib.Core.Path.{sym, subst}
 use Rattle.nitro.specs.Container.{pat}
 use Rattle.nitro.specs.EntryCode.{PatternOpens}
 use Rattle.calls.proofs.CallsLaws.{entry-denied}

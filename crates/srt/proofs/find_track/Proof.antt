@@ -1,5 +1,5 @@
 -- `srt::find_track` meets its contract. Assumes nothing.
-use mathlib.Core.Path.{sym, ap, subst, _∙_}
+use mathlib.Core.Path.{subst}
 use native.Mathlib.Omega.{arith}
 use Rattle.nitro.specs.Container.{srt}
 use Rattle.nitro.specs.EntryCode.{MaterialOpens}

@@ -1,6 +1,5 @@
 -- `srt::track_name` meets its contract. Assumes nothing.
-use mathlib.Core.Path.{sym, ap, subst, _∙_}
-use native.Mathlib.Omega.{arith}
+use mathlib.Core.Path.{sym, subst}
 use Rattle.nitro.specs.Container.{srt}
 use Rattle.nitro.specs.EntryCode.{MaterialOpens}
 use Rattle.calls.proofs.CallsLaws.{entry-denied}

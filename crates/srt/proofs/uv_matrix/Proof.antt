@@ -2,9 +2,8 @@
 use Prim.Native.Nat.{ℕ, _+_, _≤_}
 use mathlib.Core.List.{List}
 use mathlib.Core.Path.{sym, ap, subst, _∙_}
-use native.Mathlib.Omega.{arith}
 use lib.ListN.{length}
-use Rattle.nitro.proofs.EntryLaws.{onward, lent}
+use Rattle.nitro.proofs.EntryLaws.{onward}
 use Rattle.srt.specs.SrtCode.{TrackFinds}
 use Rattle.util.specs.Reader.{answered}
 use Rattle.material_animation.specs.MaterialAnimationCode.{TrackIs}

@@ -1,6 +1,6 @@
 -- `words::put_name` meets its contract. Assumes nothing.
 use mathlib.Core.Path.{refl}
-use mathlib.Core.List.{[], _∷_}
+use mathlib.Core.List.{[]}
 use native.Mathlib.Omega.{arith}
 use Rattle.words.proofs.WordsLaws.{name-words}
 use borrow.Author.Needs.{needs}
