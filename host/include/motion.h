@@ -78,7 +78,8 @@ uint32_t motion_resample_scale(const uint8_t *section, size_t length, size_t ent
 /* Bytes that hold every listing. */
 #define MOTION_LIST_ROOM 65536
 
-/* The listing of a section, as the program motion-list prints it: answers how many bytes of `out` it has. */
+/* The listing of a section, as the program motion-list prints it, with the totals after the last entry: answers how many bytes of `out` it
+ * has. */
 size_t motion_list(const uint8_t *section, size_t length, uint8_t out[MOTION_LIST_ROOM]);
 
 #ifdef __cplusplus

@@ -251,10 +251,13 @@ pub fn find(section: &[u8], name: &[u8; 16]) -> Result<Option<usize>> {
     answer(n, (out[0] == 1).then_some(out[1] as usize))
 }
 
-/// The listing of a section, as the program motion-list prints it.
+/// The listing of a section, as the program motion-list prints it: each entry, then how many were accepted and refused, and how many values the
+/// lists of the accepted ones have.
 ///
 /// ```
-/// assert!(motion::list(motion::example::WALK).starts_with("section=JNT0\nentries=1\nentry=0\n"));
+/// let listing = motion::list(motion::example::WALK);
+/// assert!(listing.starts_with("section=JNT0\nentries=1\nentry=0\n"));
+/// assert!(listing.ends_with("accepted=1\nrefused=0\nsamples=0\n"));
 /// assert_eq!(motion::list(b"TEX0"), "answer=1\n");
 /// ```
 pub fn list(section: &[u8]) -> String {

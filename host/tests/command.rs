@@ -37,7 +37,8 @@ fn accepted() {
     assert_eq!(matrix.lines().last(), Some("column 3: 3ff0000000000000 bff0000000000000 3fe0000000000000 3ff0000000000000"));
     assert_eq!(status, 0);
     let (listing, status) = motion("list -", WALK);
-    assert_eq!((listing.lines().last(), status), (Some("objects=01"), 0));
+    assert!(listing.ends_with("objects=01\naccepted=1\nrefused=0\nsamples=0\n"), "{listing}");
+    assert_eq!(status, 0);
 }
 
 #[test]

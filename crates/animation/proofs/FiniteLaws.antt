@@ -1,24 +1,30 @@
--- What an animation's readers give is so large at most that no entry of a matrix is a NaN or an infinity. Assumes nothing.
+-- What an animation's readers give is so large at most that no entry of a matrix is a NaN or an infinity, and so few that all its lists
+-- together have fewer than 2^40 values. Assumes nothing.
 use Prim.Native.Nat.{ℕ, _+_, _*_, _≤_, _<_}
 use mathlib.Core.Bool.{Bool, true, false, cond}
 use mathlib.Core.List.{List}
 use mathlib.Core.Path.{_≡_, _∙_}
 use native.Mathlib.Omega.{arith}
-use lib.Dec.{eqb, lit≤}
+use borrow.Author.Tests.{leb-true}
+use lib.Dec.{leb, eqb, lit≤}
 use lib.ListN.{length, getD}
 use lib.Ieee.{Float}
 use Rattle.util.specs.Bits.{bits, bit}
 use Rattle.util.specs.Fixed.{fix1-19-12, fix1-3-12, width}
 use Rattle.util.specs.Reader.{done, part, accepted, run}
-use Rattle.util.proofs.All.{Bytes, Each, each-at, each-of, Many, view-many, All, all-run, all-cond, all-bind, all-after, all-each}
+use Rattle.util.specs.declared.cur.Tally.{Tally}
+use Rattle.util.specs.ReaderCode.{tallyOf}
+use Rattle.util.specs.Sums.{total}
+use Rattle.util.proofs.All.{Bytes, Each, each-at, each-of, each-map, Many, All, list-all, length-all, unless-all, all-run, all-map, all-cond, all-bind, all-after, all-each}
 use Rattle.util.proofs.BelowLaws.{Small, Mixed, below-zero, below-one, small-fixed}
+use Rattle.util.proofs.SumsLaws.{entryBound, total-le, tally-le}
 use Rattle.matrix.specs.Finite.{FiniteMat}
 use Rattle.matrix.specs.Matrix.{f0, f1, trs}
 use Rattle.matrix.proofs.MagnitudeLaws.{Three, Nine, three, translation-below, rotation-below, scale-below, product-below, below-mat}
 use Rattle.rotation.proofs.MagnitudeLaws.{pivot-small, basis-small}
 use Rattle.curve.specs.Curve.{none}
-use Rattle.curve.proofs.MagnitudeLaws.{SizedCurve, scalar-sized, rotation-sized, number-small, sized}
-use Rattle.animation.specs.Animation.{Axes, Object, Animation, noAxes, Triple, leftOutBit, valuesOf, widthOf, formatOf, scalarList, scalar, axes, animatedAxes, pivotOf, basisOf, Referred, pivotRecord, basisRecord, referred, reference, rotationList, rotation, animatedRotation, animated, object, animation, axesAt, matrixAt}
+use Rattle.curve.proofs.MagnitudeLaws.{SizedCurve, count-few, scalar-sized, rotation-sized, number-small, sized}
+use Rattle.animation.specs.Animation.{Axes, Object, Animation, noAxes, axesSamples, objectSamples, mostObjects, Triple, leftOutBit, valuesOf, widthOf, formatOf, scalarList, scalar, axes, animatedAxes, pivotOf, basisOf, Referred, pivotRecord, basisRecord, referred, reference, rotationList, rotation, animatedRotation, animated, object, animation, axesAt, matrixAt}
 use Rattle.animation.proofs.ScalarLaws.{end-lt, values-le}
 
 pub record SizedAxes (a : Axes) : Type 0 where
@@ -30,6 +36,20 @@ pub record Sized (o : Object) : Type 0 where
   pub translation : SizedAxes (o .translation)
   pub rotation : SizedCurve (Nine Small) (o .rotation)
   pub scale : SizedAxes (o .scale)
+
+axes-few : (a : Axes) → SizedAxes a → axesSamples a ≤ 196605
+axes-few a h = let x = count-few Small (a .x) (h .x) in let y = count-few Small (a .y) (h .y) in let z = count-few Small (a .z) (h .z) in omega arith
+
+-- seven lists, of 65,535 values at most
+abbrev pub objectBound : ℕ
+objectBound = 458745
+
+sized-few : (o : Object) → Sized o → objectSamples o ≤ objectBound
+sized-few o h =
+    let t = axes-few (o .translation) (h .translation) in
+    let r = count-few (Nine Small) (o .rotation) (h .rotation) in
+    let s = axes-few (o .scale) (h .scale) in
+    omega arith
 
 -- three axes at a frame
 pub axes-sized : (default : Float) → Small default → (a : Axes) → SizedAxes a → (frame : ℕ) → Three Mixed (axesAt default a frame)
@@ -64,7 +84,7 @@ few w = let h = values-le w in omega arith
 scalar-list-all : (t : Triple) (w off next : ℕ) → All (Of (SizedCurve Small)) (scalarList t w off next)
 unfolding scalarList
 scalar-list-all t w off next =
-    all-bind (Many Small (valuesOf w)) _ _ _ (view-many Small _ _ (λ bs _. number-small (formatOf (widthOf w)) (format-width w) bs) _) λ vs h. sized vs (end-lt w) (few w) h
+    all-bind (Many Small (valuesOf w)) _ _ _ (list-all Small off _ _ (λ bs _. number-small (formatOf (widthOf w)) (format-width w) bs) _) λ vs h. sized vs (end-lt w) (few w) h
 
 scalar-all : (t : Triple) (b : Bool) (p : ℕ) → All (Of (SizedCurve Small)) (scalar t b p)
 unfolding scalar
@@ -95,14 +115,14 @@ module _ (pivot basis : ℕ) where
       gives b = cond b (pivotRecord (pivot + 6 * bits x 0 15)) (basisRecord (basis + 10 * bits x 0 15))
 
       go : (b : Bool) → All (Nine Small) (part (gives b .place) (gives b .size) (λ bs. done (gives b .gives bs)))
-      go true = λ bs h. pivot-small _ _ _ _ (small-fixed fix1-3-12 (lit≤ tt) _) (small-fixed fix1-3-12 (lit≤ tt) _)
-      go false = λ bs h. basis-small _ _ _ _ _
+      go true = λ bs _ _. pivot-small _ _ _ _ (small-fixed fix1-3-12 (lit≤ tt) _) (small-fixed fix1-3-12 (lit≤ tt) _)
+      go false = λ bs _ _. basis-small _ _ _ _ _
 
   rotation-list-all : (w off next : ℕ) → All (Of (SizedCurve (Nine Small))) (rotationList pivot basis w off next)
   unfolding rotationList
   rotation-list-all w off next =
-      all-bind (Many (λ _. Unit {0}) (valuesOf w)) _ _ _ (view-many _ _ _ (λ _ _. tt) _) λ xs n.
-      all-bind (Many (Nine Small) (length xs)) _ _ _ (all-each _ _ xs (each-of _ reference-all xs)) λ ms h. sized ms (end-lt w) (few w) (h .0 ∙ n .0, h .1)
+      all-bind (λ xs. length xs ≡ valuesOf w) _ _ _ (length-all off _ _ _) λ xs n.
+      all-bind (Many (Nine Small) (length xs)) _ _ _ (all-each _ _ xs (each-of _ reference-all xs)) λ ms h. sized ms (end-lt w) (few w) (h .0 ∙ n, h .1)
 
   rotation-all : (b : Bool) (p : ℕ) → All (Of (SizedCurve (Nine Small))) (rotation pivot basis b p)
   unfolding rotation
@@ -127,8 +147,12 @@ module _ (pivot basis : ℕ) where
       all-after _ _ _ λ _.
       all-cond _ (bit flags 0) (done _) (animated pivot basis flags (p + 4)) (record { translation = no-axes; rotation = tt; scale = no-axes }) (animated-all _ _)
 
+  -- what code counts of an object's lists
+  pub object-few : (s : List ℕ) → Bytes s → (p m : ℕ) (x : Tally) → x ≡ tallyOf objectSamples (run (object pivot basis p) s m) → (j c : ℕ) → x ≡ Tally.Whole j c → c ≤ objectBound
+  object-few s h p m = tally-le objectSamples objectBound (object pivot basis p) (all-map Sized (λ o. objectSamples o ≤ objectBound) sized-few (object pivot basis p) (object-all p)) s h m
+
 abbrev pub SizedAnimation : Animation → Type 0
-SizedAnimation a = Each Sized (a .objects)
+SizedAnimation a = (length (a .objects) ≤ mostObjects) × Each Sized (a .objects)
 
 pub animation-all : All SizedAnimation animation
 unfolding animation
@@ -139,16 +163,23 @@ animation-all =
     all-after _ _ _ λ _.
     all-after _ _ _ λ pivot.
     all-after _ _ _ λ basis.
-    all-after _ _ _ λ offsets.
+    all-bind (λ xs. length xs ≡ objects) _ _ _ (length-all 20 _ _ _) λ offsets n.
     all-after _ _ _ λ _.
     all-after _ _ _ λ _.
-    all-after _ _ _ λ _.
-    all-bind (Many Sized (length offsets)) _ _ _ (all-each _ _ offsets (each-of _ (object-all pivot basis) offsets)) λ os h. h .1
+    all-bind (λ _. leb objects mostObjects ≡ true) _ _ _ (unless-all _ _) λ _ t.
+    all-bind (Many Sized (length offsets)) _ _ _ (all-each _ _ offsets (each-of _ (object-all pivot basis) offsets)) λ os h.
+    (let l = leb-true objects mostObjects t in let q = h .0 in omega arith, h .1)
+
+pub animation-few : (a : Animation) → SizedAnimation a → total objectSamples (a .objects) < entryBound
+animation-few a h =
+    let n : length (a .objects) ≤ mostObjects = h .0 in
+    let l = total-le objectSamples objectBound (a .objects) (each-map Sized (λ o. objectSamples o ≤ objectBound) sized-few (a .objects) (h .1)) in
+    omega arith
 
 -- no entry of a sampled matrix is a NaN or an infinity, whatever bytes are read
 pub objects-finite : (a : Animation) → SizedAnimation a
     → (i : ℕ) → i < length (a .objects) → (d : Object) (frame : ℕ) → FiniteMat (matrixAt (getD (a .objects) i d) frame)
-objects-finite a h i l d frame = matrix-finite _ (each-at Sized (a .objects) d h i l) frame
+objects-finite a h i l d frame = matrix-finite _ (each-at Sized (a .objects) d (h .1) i l) frame
 
 pub animation-finite : (s : List ℕ) → Bytes s → (m m' : ℕ) (a : Animation) → run animation s m ≡ accepted m' a
     → (i : ℕ) → i < length (a .objects) → (d : Object) (frame : ℕ) → FiniteMat (matrixAt (getD (a .objects) i d) frame)

@@ -2,3 +2,4 @@ pub mod ScalarLaws
 pub mod RotationLaws
 pub mod ObjectLaws
 pub mod FiniteLaws
+pub mod NumberLaws

@@ -8,7 +8,8 @@ use borrow.Author.Tests.{le-leb, lt-leb, eq-eqb, ne-eqb}
 use lib.Dec.{eqb, leb}
 use lib.ListN.{length, take, drop}
 use Rattle.util.specs.declared.cur.Reach.{Reach}
-use Rattle.util.specs.declared.cur.Reach.the-variants.{Whole, Refused}
+use Rattle.util.specs.declared.cur.Tally.{Tally}
+use Rattle.util.specs.declared.cur.Tally.the-variants.{Whole, Refused}
 use Rattle.animation.specs.declared.ObjectRead.{ObjectRead}
 use Rattle.animation.specs.declared.Tables.{Tables}
 use Rattle.animation.specs.declared.TRSCurves.{TRSCurves}
@@ -16,13 +17,14 @@ use Rattle.animation.specs.declared.Triple.{Triple as CodeTriple}
 use Rattle.util.specs.View.{little, wordAt, view, same}
 use Rattle.util.specs.Bits.{bit}
 use Rattle.util.specs.Reader.{Reader, done, Outcome, accepted, refused, run, bind, each, unless}
-use Rattle.util.specs.ReaderCode.{reachOf}
+use Rattle.util.specs.ReaderCode.{tallyOf}
+use Rattle.util.specs.Sums.{total}
 use Rattle.util.proofs.Cut.{had, past, short, no-further}
 use Rattle.util.proofs.ViewLaws.{view-take, view-length}
-use Rattle.util.proofs.Each.{whole-of, refused-of, from-zero, each-read}
+use Rattle.util.proofs.Each.{counted-of, uncounted-of, from-zero, each-read}
 use Rattle.util.proofs.Calls.{after, run-bind}
-use Rattle.animation.specs.Animation.{Object, stillObject, axesOf, animated, object, Animation, animationStamp, mostObjects, animation}
-use Rattle.animation.specs.AnimationCode.{tripleMeans, axisCurves, InsideAxes, objectCurves, InsideObject, ObjectReads, stillCurves, refusedObject, curvesOf, tablesAt, objectsAt, WholeAnimation}
+use Rattle.animation.specs.Animation.{Object, stillObject, axesOf, animated, object, objectSamples, Animation, animationStamp, mostObjects, animation}
+use Rattle.animation.specs.AnimationCode.{tripleMeans, axisCurves, InsideAxes, objectCurves, InsideObject, CountedObject, ObjectReads, stillCurves, refusedObject, curvesOf, tablesAt, objectsAt, WholeAnimation}
 use Rattle.animation.proofs.RotationLaws.{both-words}
 
 -- ---- an object: its flags and two bytes, then what the flags say
@@ -47,12 +49,12 @@ module _ (pivot basis p m : ℕ) (s : List ℕ) where
       ∙ (ap (λ (x : ℕ). run (by (bit x 0) x) s far) (sym e)
       ∙ ap (λ (x : Bool). run (by x flags) s far) (sym q)))
 
--- the curves of a refused object stand, since there are none
-pub still-inside : (t : Tables) (s : List ℕ) → InsideObject t s stillCurves
-still-inside t s = record { trans = record { x = tt; y = tt; z = tt }; rotation = tt; scale = record { x = tt; y = tt; z = tt } }
+-- the curves of an object that nothing animates stand, and have no values
+pub still-counted : {r : Reach} (t : Tables) (s : List ℕ) → CountedObject t s (record { reach = r; samples = 0; curves = stillCurves })
+still-counted t s = record { inside = record { trans = record { x = tt; y = tt; z = tt }; rotation = tt; scale = record { x = tt; y = tt; z = tt } }; samples = refl }
 
 pub object-refused : {r : Reader Object} {t : Tables} {s : List ℕ} {m n : ℕ} {x : ObjectRead} → x ≡ refusedObject n → run r s m ≡ refused n → ObjectReads r t s m x
-object-refused {r} {t} {s} {m} q e = subst (ObjectReads r t s m) (sym q) (record { reads = e; holds = still-inside t s })
+object-refused {r} {t} {s} {m} q e = subst (ObjectReads r t s m) (sym q) (record { reads = e; holds = still-counted t s })
 
 -- ---- the entry
 
@@ -96,7 +98,7 @@ module _ (s : List ℕ) where
             unfolding run bind unless
             many-objects l = header-read ∙ rw (sym q ∙ k, ne-eqb (wordAt 2 s 4) 0 (λ y. z (g ∙ y)), lt-leb n mostObjects l) refl
 
-            module _ (l : n ≤ mostObjects) (t : Tables) (et : t ≡ tablesAt s) (r : Reach) (w : r ≡ reachOf (run (each (object (t .pivot) (t .basis)) (view 2 little n (drop 20 s))) s (20 + 2 * n))) where
+            module _ (l : n ≤ mostObjects) (t : Tables) (et : t ≡ tablesAt s) (r : Tally) (w : r ≡ tallyOf (total objectSamples) (run (each (object (t .pivot) (t .basis)) (view 2 little n (drop 20 s))) s (20 + 2 * n))) where
               abbrev all : Outcome (List Object)
               all = run (objectsAt s n) s (20 + 2 * n)
 
@@ -109,22 +111,23 @@ module _ (s : List ℕ) where
                   header-read
                   ∙ rw (sym q ∙ k, ne-eqb (wordAt 2 s 4) 0 (λ y. z (g ∙ y)), le-leb n mostObjects l) (run-bind (objectsAt s n) (λ os. done (record { frames = wordAt 2 s 4; objects = os })) s (20 + 2 * n))
 
-              followed : r ≡ reachOf all
-              followed = w ∙ ap (λ (x : Tables). reachOf (run (each (object (x .pivot) (x .basis)) (view 2 little n (drop 20 s))) s (20 + 2 * n))) et
+              followed : r ≡ tallyOf (total objectSamples) all
+              followed = w ∙ ap (λ (x : Tables). tallyOf (total objectSamples) (run (each (object (x .pivot) (x .basis)) (view 2 little n (drop 20 s))) s (20 + 2 * n))) et
 
               pub objects-refused : (c : ℕ) → r ≡ Refused c → run animation s 0 ≡ refused c
               unfolding after
-              objects-refused c x = few-objects ∙ ap entry (refused-of all c (sym followed ∙ x))
+              objects-refused c x = few-objects ∙ ap entry (uncounted-of _ all c (sym followed ∙ x))
 
-              pub objects-whole : (far : ℕ) → r ≡ Whole far → WholeAnimation s (record { frames = f; objects = n; tables = t; reach = far })
+              pub objects-whole : (far samples : ℕ) → r ≡ Whole far samples → WholeAnimation s (record { frames = f; objects = n; tables = t; reach = far; samples = samples })
               unfolding after
-              objects-whole far x =
-                  let o = whole-of all far (sym followed ∙ x) in
+              objects-whole far samples x =
+                  let o = counted-of (total objectSamples) all far samples (sym followed ∙ x) in
                   record {
                     held = record { frames = wordAt 2 s 4; objects = o .0 };
                     reads = few-objects ∙ ap entry (o .1);
                     frames = sym g;
                     count = each-read (object (wordAt 4 s 12) (wordAt 4 s 16)) s (view 2 little n (drop 20 s)) (20 + 2 * n) far (o .0) (o .1) .0 ∙ view-length 2 little n (drop 20 s);
+                    samples = o .2;
                     tables = et;
                     room = h;
                     objects = from-zero (objectsAt s n) s (20 + 2 * n) far (o .0) (o .1);

@@ -6,7 +6,7 @@ use mathlib.Core.Path.{_≡_, refl, sym, ap, subst, _∙_}
 use native.Mathlib.Nat.{mod-lt, le-refl}
 use native.Mathlib.Omega.{arith}
 use lib.Dec.{eqb}
-use lib.ListN.{length, drop, getD}
+use lib.ListN.{length, drop, getD, length-map}
 use lib.Pow.{pow-pos}
 use Rattle.util.specs.declared.cur.Reach.{Reach}
 use Rattle.util.specs.declared.cur.Reach.the-variants.{Whole, Refused}
@@ -28,13 +28,20 @@ use Rattle.util.proofs.Calls.{after, run-bind, accepted-first}
 use Rattle.curve.specs.Curve.{Curve, constant, samples}
 use Rattle.curve.specs.CurveCode.{listMeans}
 use Rattle.animation.specs.Animation.{startOf, endOf, valuesOf, listOf, Referred, pivotRecord, basisRecord, referred, reference, rotationList, rotation}
-use Rattle.animation.specs.AnimationCode.{codeList, referredMeans, referenceEnd, matrixFor, RotationReads}
+use Rattle.animation.specs.AnimationCode.{codeList, referredMeans, referenceEnd, matrixFor, references, RotationReads}
 
 -- the reach after two words side by side
 pub both-words : (p m : ℕ) → max (max m (p + 2)) (p + 2 + 2) ≡ max m (p + 4)
 both-words p m = omega arith
 
 -- ---- references
+
+-- how many a list has, and how many matrices they lead to
+pub reference-count : (s : List ℕ) (l : SampleList) → length (references s l) ≡ l .length
+reference-count s l = view-length 2 little (l .length) (drop (l .place) s)
+
+pub matrix-count : (t : Tables) (s : List ℕ) (l : SampleList) → length (map (matrixFor t s) (references s l)) ≡ l .length
+matrix-count t s l = length-map (references s l) (matrixFor t s) ∙ reference-count s l
 
 -- what a bit looks up in an array of two
 looked : (p b j : ℕ) → j < 2 → getD (b ∷ p ∷ []) j 0 ≡ cond (eqb j 1) p b

@@ -13,7 +13,7 @@ use Rattle.matrix.specs.declared.Mat3.{Mat3}
 use Rattle.matrix.specs.declared.Mat4.{Mat4}
 use Rattle.matrix.specs.Matrix.{f0, f1, col3, identity3, trs}
 use Rattle.rotation.specs.Rotation.{pivotMat, basisMat}
-use Rattle.curve.specs.Curve.{ListRecord, Curve, none, constant, samples, numberBytes, numberOf, mix, mixMat, sampleAt}
+use Rattle.curve.specs.Curve.{ListRecord, Curve, none, constant, samples, sampleCount, numberBytes, numberOf, mix, mixMat, sampleAt}
 
 -- the curves of the three axes
 pub record Axes : Type 0 where
@@ -36,6 +36,13 @@ noAxes = record { x = none; y = none; z = none }
 -- an object that nothing animates
 abbrev pub stillObject : Object
 stillObject = record { translation = noAxes; rotation = none; scale = noAxes }
+
+-- how many values the lists of its seven curves have
+abbrev pub axesSamples : Axes → ℕ
+axesSamples a = sampleCount (a .x) + sampleCount (a .y) + sampleCount (a .z)
+
+abbrev pub objectSamples : Object → ℕ
+objectSamples o = axesSamples (o .translation) + sampleCount (o .rotation) + axesSamples (o .scale)
 
 -- more than this many objects are refused
 abbrev pub mostObjects : ℕ

@@ -8,6 +8,7 @@ use lib.ListN.{length, take, drop, getD}
 use Rattle.util.specs.View.{little, wordAt, view}
 use Rattle.util.specs.Reader.{Reader, Outcome, accepted, refused, run, each}
 use Rattle.util.specs.ReaderCode.{reached, Reads}
+use Rattle.util.specs.Sums.{total}
 use Rattle.util.specs.declared.cur.Reach.the-variants.{Refused}
 use Rattle.animation.specs.declared.Triple.{Triple as CodeTriple}
 use Rattle.animation.specs.declared.Triple.the-variants.{Translation, Scale}
@@ -28,7 +29,7 @@ use Rattle.curve.specs.declared.ScalarCurve.{ScalarCurve}
 use Rattle.matrix.specs.declared.Mat3.{Mat3}
 use Rattle.curve.specs.Curve.{Curve, none, constant, samples}
 use Rattle.curve.specs.CurveCode.{listMeans, scalarCurve, Inside}
-use Rattle.animation.specs.Animation.{Axes, Object, Triple, translation, scale, startOf, endOf, valuesOf, Referred, pivotRecord, basisRecord, referred, object, Animation, animation}
+use Rattle.animation.specs.Animation.{Axes, Object, Triple, translation, scale, startOf, endOf, valuesOf, Referred, pivotRecord, basisRecord, referred, object, axesSamples, objectSamples, Animation, animation}
 
 abbrev pub tripleMeans : CodeTriple → Triple
 tripleMeans Translation = translation
@@ -72,11 +73,12 @@ pub record InsideAxes (s : List ℕ) (a : AxisCurves) : Type 0 where
   pub z : Inside s (a .z)
 
 abbrev pub axesMeans : List ℕ → AxesRead → Outcome (Axes × ℕ)
-axesMeans s (AxesRead.Whole a at) = accepted (at .reach) (axisCurves s a, at .pos)
+axesMeans s (AxesRead.Whole a at n) = accepted (at .reach) (axisCurves s a, at .pos)
 axesMeans s (AxesRead.Refused n) = refused n
 
+-- .. and n is how many values their lists have
 abbrev pub AxesInside : List ℕ → ℕ → AxesRead → Type 0
-AxesInside s most (AxesRead.Whole a at) = InsideAxes s a × (at .pos ≤ most)
+AxesInside s most (AxesRead.Whole a at n) = InsideAxes s a × (at .pos ≤ most) × (n ≡ axesSamples (axisCurves s a))
 AxesInside s most (AxesRead.Refused n) = Unit {0}
 
 abbrev pub AxesReads : Reader (Axes × ℕ) → List ℕ → ℕ → ℕ → AxesRead → Type 0
@@ -144,14 +146,19 @@ pub record InsideObject (t : Tables) (s : List ℕ) (c : TRSCurves) : Type 0 whe
 abbrev pub objectMeans : Tables → List ℕ → ObjectRead → Outcome Object
 objectMeans t s x = reached (x .reach) (objectCurves t s (x .curves))
 
+-- an object's curves stand in the section, and are counted
+pub record CountedObject (t : Tables) (s : List ℕ) (x : ObjectRead) : Type 0 where
+  pub inside : InsideObject t s (x .curves)
+  pub samples : x .samples ≡ objectSamples (objectCurves t s (x .curves))
+
 abbrev pub ObjectReads : Reader Object → Tables → List ℕ → ℕ → ObjectRead → Type 0
-ObjectReads r t s reach x = Reads (objectMeans t s) (λ y. InsideObject t s (y .curves)) r s reach x
+ObjectReads r t s reach x = Reads (objectMeans t s) (CountedObject t s) r s reach x
 
 abbrev pub stillCurves : TRSCurves
 stillCurves = record { trans = noCurves; rotation = RotationCurve.None; scale = noCurves }
 
 abbrev pub refusedObject : ℕ → ObjectRead
-refusedObject n = record { reach = Refused n; curves = stillCurves }
+refusedObject n = record { reach = Refused n; samples = 0; curves = stillCurves }
 
 -- the curves of a triple
 abbrev pub curvesOf : CodeTriple → TRSCurves → AxisCurves
@@ -173,6 +180,7 @@ pub record WholeAnimation (s : List ℕ) (a : Known) : Type 0 where
   pub reads : run animation s 0 ≡ accepted (a .reach) held
   pub frames : held .frames ≡ a .frames
   pub count : length (held .objects) ≡ a .objects
+  pub samples : total objectSamples (held .objects) ≡ a .samples
   pub tables : a .tables ≡ tablesAt s
   pub room : 20 + 2 * a .objects ≤ length s
   pub objects : (m : ℕ) × (run (objectsAt s (a .objects)) s 0 ≡ accepted m (held .objects))

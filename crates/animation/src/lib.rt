@@ -2,27 +2,32 @@
 use curve::Number;
 use curve::SampleList;
 use curve::ScalarCurve;
+use curve::sample_count;
 use util::bits::bit16;
 use util::bits::bits16;
 use util::bits::bits32;
 use util::cur::Cur;
 use util::cur::Reach;
+use util::cur::Tally;
 use util::cur::greater;
 use util::view::starts_with;
 use util::view::word16;
 use util::view::word32;
 ghost use mathlib.Core.Bool.{true, false};
+ghost use mathlib.Core.List.{List};
 ghost use mathlib.Core.Path.{_≡_};
-ghost use Prim.Native.Nat.{_+_, _*_, _<_, _≤_};
+ghost use Prim.Native.Nat.{ℕ, _+_, _*_, _<_, _≤_};
 ghost use lib.Dec.{eqb};
 ghost use lib.ListN.{length, drop};
 ghost use Rattle.util.specs.Bits.{bits};
 ghost use Rattle.util.specs.View.{little, view};
 ghost use Rattle.util.specs.Reader.{run, each};
-ghost use Rattle.util.specs.ReaderCode.{reachOf, Reads};
+ghost use Rattle.util.specs.ReaderCode.{reachOf, tallyOf, Reads};
+ghost use Rattle.util.specs.Sums.{total};
+ghost use Rattle.curve.specs.Curve.{sampleCount};
 ghost use Rattle.curve.specs.CurveCode.{formatMeans};
-ghost use Rattle.animation.specs.Animation.{numbersOf, leftOutBit, constantBit, startOf, endOf, widthOf, formatOf, valueSize, listFields, scalarList, scalar, axis, axes, animatedAxes, reference, rotationList, rotation, animatedRotation, animated, object};
-ghost use Rattle.animation.specs.AnimationCode.{tripleMeans, fieldsMeans, Forward, codeList, ScalarReads, AxesReads, noCurves, referredMeans, referenceEnd, RotationReads, ObjectReads, stillCurves, refusedObject, curvesOf, tablesAt, AnimationIs};
+ghost use Rattle.animation.specs.Animation.{numbersOf, leftOutBit, constantBit, startOf, endOf, widthOf, formatOf, valueSize, listFields, scalarList, scalar, axis, axes, animatedAxes, reference, rotationList, rotation, animatedRotation, animated, object, axesSamples, objectSamples};
+ghost use Rattle.animation.specs.AnimationCode.{tripleMeans, fieldsMeans, Forward, codeList, ScalarReads, AxesReads, noCurves, referredMeans, referenceEnd, axisCurves, rotationCurve, RotationReads, ObjectReads, stillCurves, refusedObject, curvesOf, tablesAt, AnimationIs};
 ghost use Rattle.animation.specs.Animation as spec;
 
 // One of an object's two triples of curves.
@@ -68,8 +73,9 @@ pub enum ScalarRead {
     Refused(u8),
 }
 
+// The curves of three axes, where reading stands after them, and how many values their lists have.
 pub enum AxesRead {
-    Whole(AxisCurves, Cur),
+    Whole(AxisCurves, Cur, u32),
     Refused(u8),
 }
 
@@ -78,18 +84,21 @@ pub enum RotationRead {
     Refused(u8),
 }
 
-// How far an object reaches, and its curves: where it is refused, none. Curves inside an enum would be copied out of it at every use.
+// How far an object reaches, its curves, and how many values their lists have: where it is refused, none. Curves inside an enum would be copied
+// out of it at every use, and so they would if their values were counted after they have been put together.
 pub struct ObjectRead {
     pub reach: Reach,
+    pub samples: u64,
     pub curves: TRSCurves,
 }
 
-// What is known of a whole entry: its frames, its objects, its tables and its reach.
+// What is known of a whole entry: its frames, its objects, its tables, its reach, and how many values its lists have.
 pub struct Animation {
     pub frames: u16,
     pub objects: usize,
     pub tables: Tables,
     pub reach: usize,
+    pub samples: u64,
 }
 
 pub enum AnimationRead {
@@ -253,6 +262,13 @@ fn read_axis(s: &[u8], which: Triple, flags: u16, i: u32, at: Cur) -> ScalarRead
     }
 }
 
+// How many values the lists of three axes have.
+fn axes_samples(x: ScalarCurve, y: ScalarCurve, z: ScalarCurve) -> u32
+    ensures { λ r. ⌜ ((s : List ℕ) → r ≡ axesSamples (axisCurves s (record { x = x; y = y; z = z }))) ⌝ }
+{
+    sample_count(x) as u32 + sample_count(y) as u32 + sample_count(z) as u32
+}
+
 // The curves of x, y and z, one whole before the next.
 fn read_axes(s: &[u8], which: Triple, flags: u16, at: Cur) -> AxesRead
     requires { ⌜ at .pos ≤ 524288 ⌝ }
@@ -264,7 +280,9 @@ fn read_axes(s: &[u8], which: Triple, flags: u16, at: Cur) -> AxesRead
             ScalarRead::Refused(n) => AxesRead::Refused(n),
             ScalarRead::Whole(y, z_at) => match read_axis(s, which, flags, 2, z_at) {
                 ScalarRead::Refused(n) => AxesRead::Refused(n),
-                ScalarRead::Whole(z, end) => AxesRead::Whole(AxisCurves { x, y, z }, end),
+                ScalarRead::Whole(z, end) => {
+                    AxesRead::Whole(AxisCurves { x, y, z }, end, axes_samples(x, y, z))
+                }
             },
         },
     }
@@ -414,7 +432,7 @@ fn read_animated_axes(s: &[u8], which: Triple, flags: u16, at: Cur) -> AxesRead
     if is_clear(flags, left_out_bit(which)) {
         read_axes(s, which, flags, at)
     } else {
-        AxesRead::Whole(no_axes(), at)
+        AxesRead::Whole(no_axes(), at, 0)
     }
 }
 
@@ -430,6 +448,17 @@ fn read_animated_rotation(s: &[u8], t: Tables, flags: u16, at: Cur) -> RotationR
         read_constant_rotation(s, t, at)
     } else {
         read_rotation_list(s, t, at)
+    }
+}
+
+// How many references a rotation's list has; a constant is no list.
+fn rotation_samples(c: RotationCurve) -> u16
+    ensures { λ r. ⌜ ((t : Tables) (s : List ℕ) → r ≡ sampleCount (rotationCurve t s c)) ⌝ }
+{
+    match c {
+        RotationCurve::None => 0,
+        RotationCurve::Constant(_) => 0,
+        RotationCurve::Samples(l) => l.length,
     }
 }
 
@@ -449,6 +478,7 @@ fn refused_object(n: u8) -> ObjectRead
 {
     ObjectRead {
         reach: Reach::Refused(n),
+        samples: 0,
         curves: still_curves(),
     }
 }
@@ -460,14 +490,17 @@ fn read_animated(s: &[u8], t: Tables, flags: u16, at: Cur) -> ObjectRead
 {
     match read_animated_axes(s, Triple::Translation, flags, at) {
         AxesRead::Refused(n) => refused_object(n),
-        AxesRead::Whole(trans, rotation_at) => {
+        AxesRead::Whole(trans, rotation_at, moved) => {
             match read_animated_rotation(s, t, flags, rotation_at) {
                 RotationRead::Refused(n) => refused_object(n),
                 RotationRead::Whole(rotation, scale_at) => {
                     match read_animated_axes(s, Triple::Scale, flags, scale_at) {
                         AxesRead::Refused(n) => refused_object(n),
-                        AxesRead::Whole(scale, end) => ObjectRead {
+                        AxesRead::Whole(scale, end, sized) => ObjectRead {
                             reach: Reach::Whole(end.reach),
+                            samples: moved as u64
+                                + rotation_samples(rotation) as u64
+                                + sized as u64,
                             curves: TRSCurves {
                                 trans,
                                 rotation,
@@ -495,6 +528,7 @@ pub fn read_object(s: &[u8], t: Tables, p: usize, reach: usize) -> ObjectRead
     if bit16(flags, 0) {
         return ObjectRead {
             reach: Reach::Whole(far),
+            samples: 0,
             curves: still_curves(),
         };
     }
@@ -511,32 +545,38 @@ pub fn curves_of(which: Triple, c: TRSCurves) -> AxisCurves
     }
 }
 
-// How far an object reaches.
-fn follow_object(s: &[u8], t: Tables, p: usize, reach: usize) -> Reach
+// How far an object reaches, and how many values its lists have.
+fn follow_object(s: &[u8], t: Tables, p: usize, reach: usize) -> Tally
     requires { ⌜ p ≤ 65535 ⌝ }
-    ensures { λ r. ⌜ r ≡ reachOf (run (object (t .pivot) (t .basis) p) (now (s .entry)) reach) ⌝ }
+    ensures { λ r. ⌜ r ≡ tallyOf objectSamples (run (object (t .pivot) (t .basis) p) (now (s .entry)) reach) ⌝ }
 {
     let r = read_object(s, t, p, reach);
-    r.reach
+    let far = r.reach;
+    match far {
+        Reach::Refused(c) => Tally::Refused(c),
+        Reach::Whole(m) => Tally::Whole(m, r.samples),
+    }
 }
 
-// How far the n objects reach whose offsets stand at 20.
-fn follow_objects(s: &[u8], t: Tables, n: usize, reach: usize) -> Reach
-    requires { ⌜ 20 + 2 * n ≤ length (now s) ⌝ }
-    ensures { λ r. ⌜ r ≡ reachOf (run (each (object (t .pivot) (t .basis)) (view 2 little n (drop 20 (now (s .entry))))) (now (s .entry)) reach) ⌝ }
+// How far the n objects reach whose offsets stand at 20, and how many values their lists have.
+fn follow_objects(s: &[u8], t: Tables, n: usize, reach: usize) -> Tally
+    requires { ⌜ (20 + 2 * n ≤ length (now s)) × (n < 65536) ⌝ }
+    ensures { λ r. ⌜ r ≡ tallyOf (total objectSamples) (run (each (object (t .pivot) (t .basis)) (view 2 little n (drop 20 (now (s .entry))))) (now (s .entry)) reach) ⌝ }
 {
     let mut far = reach;
+    let mut samples = 0u64;
     let mut i = 0usize;
     while i < n {
         match follow_object(s, t, word16(s, 20 + 2 * i) as usize, far) {
-            Reach::Refused(c) => return Reach::Refused(c),
-            Reach::Whole(m) => {
+            Tally::Refused(c) => return Tally::Refused(c),
+            Tally::Whole(m, count) => {
                 far = m;
+                samples += count;
             }
         }
         i += 1;
     }
-    Reach::Whole(far)
+    Tally::Whole(far, samples)
 }
 
 fn read_tables(s: &[u8]) -> Tables
@@ -571,12 +611,13 @@ pub fn read_animation(s: &[u8]) -> AnimationRead
     }
     let tables = read_tables(s);
     match follow_objects(s, tables, objects, 20 + 2 * objects) {
-        Reach::Refused(n) => AnimationRead::Refused(n),
-        Reach::Whole(reach) => AnimationRead::Whole(Animation {
+        Tally::Refused(n) => AnimationRead::Refused(n),
+        Tally::Whole(reach, samples) => AnimationRead::Whole(Animation {
             frames,
             objects,
             tables,
             reach,
+            samples,
         }),
     }
 }

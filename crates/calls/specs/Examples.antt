@@ -43,7 +43,7 @@ nested = stampOf jnt ++ u32 0 ++ block 2 4 (u32 40 ++ u32 1000) ((0x4A ∷ 0x00 
 
 -- its parts end at 60, and the info block at 72: the reach is 72. The refused neighbour changes nothing.
 pub inside-the-block :
-    (answer (check 0) nested ≡ accepted 72 (record { name = 0x4A ∷ 0x00 ∷ 0x41 ∷ 0x43 ∷ 7 ∷ zeros 11; frames = 7; count = 0 }))
+    (answer (check 0) nested ≡ accepted 72 (record { name = 0x4A ∷ 0x00 ∷ 0x41 ∷ 0x43 ∷ 7 ∷ zeros 11; frames = 7; count = 0; samples = 0 }))
     × (answer (check 1) nested ≡ refused 2)
     × (answer (check 2) nested ≡ refused 9)
 unfolding evaluate
@@ -73,7 +73,7 @@ scroll off =
     ++ block 1 40 (u16 9 ++ u8 0 ++ u8 16 ++ u32 5000 ++ zeros 16 ++ u16 0 ++ u8 0 ++ u8 16 ++ u32 off ++ u16 9 ++ u8 0 ++ u8 17 ++ u32 5000) (zeros 16)
 
 abbrev pub scrollRecord : EntryRecord
-scrollRecord = record { name = zeros 16; frames = 0; count = 1 }
+scrollRecord = record { name = zeros 16; frames = 0; count = 1; samples = 0 }
 
 -- the place counts from the section's start; a call that takes another stamp is refused before anything else is looked at
 pub its-channel :
@@ -137,7 +137,24 @@ pub nothing-to-sample :
 unfolding evaluate
 nothing-to-sample = (refl, refl, refl)
 
--- ---- 7. The matrix of the 86 bytes: the identity, with the translation in its fourth column
+-- ---- 7. Samples
+
+-- the keys of both tracks; and one object whose x and z share a list of two values, y constant, rotation and scale left out
+abbrev pub shared : List ℕ
+shared =
+    stampOf jnt ++ u32 0 ++ block 1 4 (u32 48) (zeros 16)
+    ++ (0x4A ∷ 0x00 ∷ 0x41 ∷ 0x43 ∷ []) ++ u16 5 ++ u16 1 ++ zeros 12 ++ u16 22
+    ++ u16 0x250 ++ u16 0 ++ u32 (2 * 0x1_0000) ++ u32 46 ++ u32 0x1000 ++ u32 (2 * 0x1_0000) ++ u32 46
+    ++ zeros 8
+
+-- a list counts each time, a constant never
+pub its-samples :
+    (answer (check 0) (blink 0 1) ≡ accepted 168 (record { name = zeros 16; frames = 10; count = 2; samples = 1 }))
+    × (answer (check 0) shared ≡ accepted 102 (record { name = zeros 16; frames = 5; count = 1; samples = 4 }))
+unfolding evaluate
+its-samples = (refl, refl)
+
+-- ---- 8. The matrix of the 86 bytes: the identity, with the translation in its fourth column
 
 pub its-matrix :
     (answer (on jnt 0 (ofObject 0 (matrix 5))) walk

@@ -1,5 +1,6 @@
 pub mod Calls
 pub mod Demand3
+pub mod Samples
 pub mod Evaluate
 pub mod Pinned
 pub mod Examples

@@ -55,7 +55,7 @@ pub record Pinned : Type 0 where
   pub P6 : Exactly (basisMat 0 0 0 0 7 .c1 .z) (negsuc 0) 1 × (basisMat 0 0 0 0 6 .c1 .z ≡ f0)
   pub P7 : (domain fiveValues ≡ over 0 11 2) × (length (framesOf (domain fiveValues)) ≡ 6)
   pub P8 : (keyAt 0 ≡ 0) × (keyAt 2 ≡ 0) × (keyAt 5 ≡ 1) × (keyAt 9 ≡ 2)
-  pub P9 : (answer (check 0) walk ≡ accepted 86 (record { name = walkName; frames = 12; count = 1 })) × (answer (check 0) (take 85 walk) ≡ refused 2)
+  pub P9 : (answer (check 0) walk ≡ accepted 86 (record { name = walkName; frames = 12; count = 1; samples = 0 })) × (answer (check 0) (take 85 walk) ≡ refused 2)
 
 pub pinned : Pinned
 unfolding fixed ratio round neg pivotMat basisMat sub mul domain framesOf framesFrom choice firstLater evaluate

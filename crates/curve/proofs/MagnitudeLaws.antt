@@ -5,7 +5,7 @@ use mathlib.Core.List.{List, [], _∷_}
 use mathlib.Core.Path.{_≡_, refl}
 use native.Mathlib.Omega.{arith}
 use borrow.Author.Tests.{leb-false}
-use lib.Dec.{leb, lit≤}
+use lib.Dec.{leb, lit≤, lit<}
 use lib.ListN.{length, getD}
 use lib.Ieee.{Float}
 use Rattle.util.specs.Fixed.{Fix, width}
@@ -16,7 +16,7 @@ use Rattle.matrix.specs.declared.Col3.{Col3}
 use Rattle.matrix.specs.declared.Mat3.{Mat3}
 use Rattle.matrix.specs.Matrix.{identity3}
 use Rattle.matrix.proofs.MagnitudeLaws.{Three, Nine, three}
-use Rattle.curve.specs.Curve.{ListRecord, Curve, none, constant, samples, numberOf, floor, ceil, ofWhole, index, mix, mixCol, mixMat, between, sampleList, sampleAt}
+use Rattle.curve.specs.Curve.{ListRecord, Curve, none, constant, samples, sampleCount, numberOf, floor, ceil, ofWhole, index, mix, mixCol, mixMat, between, sampleList, sampleAt}
 use Rattle.curve.proofs.IndexLaws.{index-upto, floor-le}
 
 -- g is the fraction, and its bound is crude
@@ -41,6 +41,11 @@ abbrev pub SizedCurve : {X : Type 0} → (X → Type 0) → Curve X → Type 0
 SizedCurve P none = Unit {0}
 SizedCurve P (constant v) = P v
 SizedCurve P (samples l vs) = SizedList P l vs
+
+pub count-few : {X : Type 0} (P : X → Type 0) (c : Curve X) → SizedCurve P c → sampleCount c < 65536
+count-few P none h = lit< tt
+count-few P (constant v) h = lit< tt
+count-few P (samples l vs) h = h .few
 
 -- where P holds of the values, and Q of what is mixed of them, Q holds of each sample
 module _ {X : Type 0} (P Q : X → Type 0) (mixed : X → X → Float → X) (kept : (v : X) → P v → Q v)

@@ -30,6 +30,12 @@ pub data Curve (A : Type 0) : Type 0 where
   constant : A → Curve A
   samples : ListRecord → List A → Curve A
 
+-- how many values its list has; a constant is no list
+abbrev pub sampleCount : {A : Type 0} → Curve A → ℕ
+sampleCount none = 0
+sampleCount (constant v) = 0
+sampleCount (samples l vs) = length vs
+
 -- ---- numbers
 
 -- the bytes of a number

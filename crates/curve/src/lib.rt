@@ -7,13 +7,14 @@ use util::fixed::Fix1_10_5;
 use util::fixed::Fix1_19_12;
 use util::view::word16;
 use util::view::word32;
+ghost use mathlib.Core.List.{List};
 ghost use mathlib.Core.Path.{_≡_};
-ghost use Prim.Native.Nat.{_+_, _*_, _<_, _≤_};
+ghost use Prim.Native.Nat.{ℕ, _+_, _*_, _<_, _≤_};
 ghost use lib.Ieee.{Float};
 ghost use lib.ListN.{length, drop};
 ghost use Rattle.util.specs.Fixed.{fix1-19-12};
 ghost use Rattle.util.specs.Within.{Under};
-ghost use Rattle.curve.specs.Curve.{countedFrom, index, mix, mixCol, mixMat, sampleAt, numberBytes, numberOf, recorded};
+ghost use Rattle.curve.specs.Curve.{sampleCount, countedFrom, index, mix, mixCol, mixMat, sampleAt, numberBytes, numberOf, recorded};
 ghost use Rattle.curve.specs.CurveCode.{spotAt, formatMeans, listMeans, scalarCurve, InsideList, Inside, recordMeans};
 ghost use Rattle.curve.specs.Curve as spec;
 
@@ -183,6 +184,17 @@ pub fn sample_scalar(s: &[u8], curve: ScalarCurve, default: f64, frame: u16) -> 
             }
             sample_list(s, l, number, frame)
         }
+    }
+}
+
+// How many values its list has; a constant is no list.
+pub fn sample_count(curve: ScalarCurve) -> u16
+    ensures { λ r. ⌜ ((s : List ℕ) → r ≡ sampleCount (scalarCurve s curve)) ⌝ }
+{
+    match curve {
+        ScalarCurve::None => 0,
+        ScalarCurve::Constant(_) => 0,
+        ScalarCurve::Samples(l, _) => l.length,
     }
 }
 

@@ -1,3 +1,4 @@
 pub mod InfoBlockLaws
 pub mod NameLaws
 pub mod BytesLaws
+pub mod NumberLaws

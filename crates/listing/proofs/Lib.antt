@@ -1,1 +1,3 @@
 pub mod SectionLaws
+pub mod TotalsLaws
+pub mod AddsUp

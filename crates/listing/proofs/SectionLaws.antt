@@ -19,8 +19,8 @@ use Rattle.info_block.specs.Name.{Name}
 use Rattle.nitro.specs.Container.{Kind, allKinds, stamped, section, EntryRecord}
 use Rattle.nitro.specs.ContainerCode.{HeaderReads}
 use Rattle.calls.specs.Calls.{check, answer}
-use Rattle.text.specs.Text.{decimal, hex, line}
-use Rattle.listing.specs.Listing.{outcomeLines, entryLines, entriesFrom, header, sectionLines, listing}
+use Rattle.text.specs.Text.{ascii, decimal, hex, line}
+use Rattle.listing.specs.Listing.{stampText, outcomeLines, entryLines, entriesFrom, totalLines, acceptedIn, refusedIn, samplesIn, header, entryListing, sectionLines, listing}
 use Rattle.text.specs.Writes.{Wrote}
 use Rattle.listing.specs.SectionCode.{blockOutcome, headerFrom, entryRoom}
 use Rattle.text.proofs.WritesLaws.{both, same}
@@ -68,6 +68,15 @@ module _ (k : Kind) (s : List ℕ) (p count : ℕ) where
 -- ---- a section with a stamp
 
 module _ (s : List ℕ) (k : Kind) where
+  -- the lines as they are written: the entries and the totals after the first two
+  pub block-lines : (b : InfoBlock)
+      → (line "section" (ascii (stampText k)) ++ line "entries" (decimal (b .count))) ++ (entriesFrom k s 0 (view 16 (λ bs. bs) (b .count) (drop (b .names) s)) ++ totalLines (acceptedIn s (b .count)) (refusedIn s (b .count)) (samplesIn s (b .count)))
+      ≡ sectionLines s (blockOutcome s k b)
+  unfolding sectionLines entryListing
+  block-lines b =
+      let n = b .count in
+      sym (append-assoc (line "section" (ascii (stampText k)) ++ line "entries" (decimal n)) (entriesFrom k s 0 (view 16 (λ bs. bs) n (drop (b .names) s))) (totalLines (acceptedIn s n) (refusedIn s n) (samplesIn s n)))
+
   pub block-refused : (n : ℕ) → run section s 4 ≡ refused n → line "answer" (decimal n) ≡ sectionLines s (run (headerFrom k) s 4)
   unfolding sectionLines
   block-refused n e = sym (ap (sectionLines s) (stops _ _ _ _ n e))

@@ -5,12 +5,14 @@ use mathlib.Core.Bool.{cond}
 use mathlib.Core.List.{List, [], _∷_, _++_}
 use mathlib.Core.Path.{_≡_, refl}
 use lib.Dec.{ltb}
-use lib.ListN.{length}
+use lib.ListN.{length, take, replicate}
 use Rattle.util.specs.Reader.{Reader, done, bind, Outcome, accepted, refused, run}
+use Rattle.util.specs.Sums.{sumTo}
 use Rattle.info_block.specs.InfoBlock.{Block}
 use Rattle.info_block.specs.Name.{Name}
-use Rattle.nitro.specs.Container.{Kind, jnt, srt, pat, allKinds, stamped, section, EntryRecord}
+use Rattle.nitro.specs.Container.{Kind, jnt, srt, pat, stampOf, allKinds, stamped, section, EntryRecord}
 use Rattle.calls.specs.Calls.{check, answer}
+use Rattle.calls.specs.Samples.{adds}
 use Rattle.calls.specs.Evaluate.{evaluate}
 use Rattle.calls.specs.Pinned.{walk}
 use Rattle.text.specs.Text.{ascii, digits, places, decimal, hex, line}
@@ -43,6 +45,27 @@ unfoldable pub entriesFrom : Kind → List ℕ → ℕ → List Name → List �
 entriesFrom k s i [] = []
 entriesFrom k s i (name ∷ names) = entryLines k s i name ++ entriesFrom k s (suc i) names
 
+-- ---- the totals, after the last entry
+
+abbrev pub totalLines : ℕ → ℕ → ℕ → List ℕ
+totalLines whole damaged samples = line "accepted" (decimal whole) ++ line "refused" (decimal damaged) ++ line "samples" (decimal samples)
+
+-- what a check adds to the refused
+abbrev pub refusals : Outcome EntryRecord → ℕ
+refusals (accepted m e) = 0
+refusals (refused n) = 1
+
+-- of the n entries of a section: how many are accepted, how many are refused, and the samples of the accepted ones
+module _ (s : List ℕ) where
+  abbrev pub acceptedIn : ℕ → ℕ
+  acceptedIn n = sumTo n (λ i. adds (λ _. 1) (answer (check i) s))
+
+  abbrev pub refusedIn : ℕ → ℕ
+  refusedIn n = sumTo n (λ i. refusals (answer (check i) s))
+
+  abbrev pub samplesIn : ℕ → ℕ
+  samplesIn n = sumTo n (λ i. adds (λ e. e .samples) (answer (check i) s))
+
 -- ---- the listing
 
 -- the section by itself: its kind and its info block
@@ -53,18 +76,30 @@ pub record Header : Type 0 where
 unfoldable pub header : Reader Header
 header = bind (stamped allKinds) (λ k. bind section (λ b. done (record { kind = k; block = b })))
 
+-- the lines above the totals
+unfoldable pub entryListing : List ℕ → Header → List ℕ
+entryListing s h = line "section" (ascii (stampText (h .kind))) ++ line "entries" (decimal (h .block .count)) ++ entriesFrom (h .kind) s 0 (h .block .names)
+
+-- a refused section has its answer alone
 unfoldable pub sectionLines : List ℕ → Outcome Header → List ℕ
-sectionLines s (accepted m h) = line "section" (ascii (stampText (h .kind))) ++ line "entries" (decimal (h .block .count)) ++ entriesFrom (h .kind) s 0 (h .block .names)
+sectionLines s (accepted m h) = let n = h .block .count in entryListing s h ++ totalLines (acceptedIn s n) (refusedIn s n) (samplesIn s n)
 sectionLines s (refused n) = line "answer" (decimal n)
 
 -- over 65,536 bytes are refused first of all, 13
 unfoldable pub listing : List ℕ → List ℕ
 listing s = cond (ltb 65536 (length s)) (line "answer" (decimal 13)) (sectionLines s (run header s 0))
 
--- ---- the printed example
+-- ---- the printed example, and others
 
 pub printed :
     listing walk
-    ≡ ascii "section=JNT0\nentries=1\nentry=0\nname=77616c6b000000000000000000000000\nanswer=0\nreach=86\nframes=12\nobjects=01\n"
-unfolding evaluate digits places hex outcomeLines entryLines entriesFrom header sectionLines listing
+    ≡ ascii "section=JNT0\nentries=1\nentry=0\nname=77616c6b000000000000000000000000\nanswer=0\nreach=86\nframes=12\nobjects=01\naccepted=1\nrefused=0\nsamples=0\n"
+unfolding evaluate digits places hex outcomeLines entryLines entriesFrom sumTo header entryListing sectionLines listing
 printed = refl
+
+-- a section of no entries; one that is refused
+pub few-lines :
+    (listing (stampOf jnt ++ replicate 16 0 ++ (4 ∷ 0 ∷ 0 ∷ 0 ∷ [])) ≡ ascii "section=JNT0\nentries=0\naccepted=0\nrefused=0\nsamples=0\n")
+    × (listing (take 47 walk) ≡ ascii "answer=2\n")
+unfolding evaluate digits places sumTo entriesFrom header entryListing sectionLines listing
+few-lines = (refl, refl)

@@ -13,16 +13,20 @@ use text::put_decimal_line;
 use text::put_digits_line;
 use text::put_hex_line;
 use text::put_text;
+ghost use mathlib.Core.List.{_++_};
+ghost use mathlib.Core.Path.{_≡_};
 ghost use Prim.Native.Nat.{_+_, _*_, _<_, _≤_};
 ghost use lib.ListN.{length, take, drop};
 ghost use Rattle.util.specs.View.{view};
 ghost use Rattle.util.specs.Reader.{run};
 ghost use Rattle.nitro.specs.ContainerCode.{kindMeans};
 ghost use Rattle.nitro.specs.EntryCode.{checkMeans};
+ghost use Rattle.calls.specs.Calls.{answer};
+ghost use Rattle.calls.specs.Calls as calls;
 ghost use Rattle.text.specs.Text.{ascii, line};
-ghost use Rattle.listing.specs.Listing.{stampText, countLine, entryLines, entriesFrom, sectionLines, listing, outcomeLines};
+ghost use Rattle.listing.specs.Listing.{stampText, countLine, entryLines, entriesFrom, totalLines, acceptedIn, refusedIn, samplesIn, sectionLines, listing, outcomeLines};
 ghost use Rattle.text.specs.Writes.{Wrote, lineRoom, room};
-ghost use Rattle.listing.specs.SectionCode.{blockOutcome, headerFrom, recordRoom, entryRoom};
+ghost use Rattle.listing.specs.SectionCode.{blockOutcome, headerFrom, recordRoom, entryRoom, totalRoom, totalsWith, FewTotals};
 
 // How many objects or tracks an entry has.
 fn put_count(out: &mut [u8; ROOM], at: usize, kind: Kind, n: usize) -> usize
@@ -52,17 +56,59 @@ fn put_check(out: &mut [u8; ROOM], at: usize, kind: Kind, found: EntryCheck) -> 
     }
 }
 
-// The lines of entry i, whose name stands at p.
-fn put_entry(s: &[u8], out: &mut [u8; ROOM], at: usize, kind: Kind, i: usize, p: usize) -> usize
-    requires { ⌜ (at + entryRoom ≤ room) × (p + 16 ≤ length (now s)) ⌝ }
+// The lines of entry i, whose name stands at p and whose check found this.
+fn put_entry(
+    s: &[u8],
+    out: &mut [u8; ROOM],
+    at: usize,
+    kind: Kind,
+    i: usize,
+    p: usize,
+    found: EntryCheck,
+) -> usize
+    requires { ⌜ (at + entryRoom ≤ room) × (p + 16 ≤ length (now s)) × (checkMeans found ≡ answer (calls.check i) (now s)) ⌝ }
     ensures { λ r. ⌜ Wrote (now (out .entry)) (now (out .exit)) at r entryRoom (entryLines (kindMeans kind) (now (s .entry)) i (take 16 (drop p (now (s .entry))))) ⌝ }
 {
     let name = put_decimal_line(out, at, b"entry=", i);
     let answer = put_hex_line(out, name, b"name=", s, p);
-    put_check(out, answer, kind, check(s, i))
+    put_check(out, answer, kind, found)
 }
 
-// The lines of each entry; the names stand at `names`, one after the other.
+// How many entries were accepted and refused, and how many samples the accepted ones have.
+struct Totals {
+    accepted: usize,
+    refused: usize,
+    samples: u64,
+}
+
+// The totals with one entry more.
+fn add_check(t: Totals, found: EntryCheck) -> Totals
+    requires { ⌜ FewTotals t found ⌝ }
+    ensures { λ r. ⌜ r ≡ totalsWith t (checkMeans found) ⌝ }
+{
+    let mut r = t;
+    match found {
+        EntryCheck::Refused(_) => {
+            r.refused = t.refused + 1;
+        }
+        EntryCheck::Whole(e) => {
+            r.accepted = t.accepted + 1;
+            r.samples = t.samples + e.samples;
+        }
+    }
+    r
+}
+
+fn put_totals(out: &mut [u8; ROOM], at: usize, t: Totals) -> usize
+    requires { ⌜ at + totalRoom ≤ room ⌝ }
+    ensures { λ r. ⌜ Wrote (now (out .entry)) (now (out .exit)) at r totalRoom (totalLines (t .accepted) (t .refused) (t .samples)) ⌝ }
+{
+    let refused = put_decimal_line(out, at, b"accepted=", t.accepted);
+    let samples = put_decimal_line(out, refused, b"refused=", t.refused);
+    put_decimal_line(out, samples, b"samples=", t.samples as usize)
+}
+
+// The lines of each entry, and the totals after the last; the names stand at `names`, one after the other.
 fn put_entries(
     s: &[u8],
     out: &mut [u8; ROOM],
@@ -71,14 +117,21 @@ fn put_entries(
     names: usize,
     count: usize,
 ) -> usize
-    requires { ⌜ (at + entryRoom * count ≤ room) × (names + 16 * count ≤ length (now s)) ⌝ }
-    ensures { λ r. ⌜ Wrote (now (out .entry)) (now (out .exit)) at r (entryRoom * count) (entriesFrom (kindMeans kind) (now (s .entry)) 0 (view 16 (λ bs. bs) count (drop names (now (s .entry))))) ⌝ }
+    requires { ⌜ (count < 256) × (at + (entryRoom * count + totalRoom) ≤ room) × (names + 16 * count ≤ length (now s)) ⌝ }
+    ensures { λ r. ⌜ Wrote (now (out .entry)) (now (out .exit)) at r (entryRoom * count + totalRoom) (entriesFrom (kindMeans kind) (now (s .entry)) 0 (view 16 (λ bs. bs) count (drop names (now (s .entry)))) ++ totalLines (acceptedIn (now (s .entry)) count) (refusedIn (now (s .entry)) count) (samplesIn (now (s .entry)) count)) ⌝ }
 {
     let mut next = at;
+    let mut totals = Totals {
+        accepted: 0,
+        refused: 0,
+        samples: 0,
+    };
     for i in 0..count {
-        next = put_entry(s, out, next, kind, i, names + 16 * i);
+        let found = check(s, i);
+        next = put_entry(s, out, next, kind, i, names + 16 * i, found);
+        totals = add_check(totals, found);
     }
-    next
+    put_totals(out, next, totals)
 }
 
 // The section's kind.
@@ -93,7 +146,7 @@ fn put_stamp(out: &mut [u8; ROOM], at: usize, kind: Kind) -> usize
     }
 }
 
-// A section with this info block: its kind, the count, and at most 255 entries.
+// A section with this info block: its kind, the count, at most 255 entries, and the totals.
 fn list_block(s: &[u8], out: &mut [u8; ROOM], kind: Kind, b: InfoBlock) -> usize
     requires { ⌜ (b .count < 256) × (b .names + 16 * b .count ≤ length (now s)) ⌝ }
     ensures { λ r. ⌜ Wrote (now (out .entry)) (now (out .exit)) 0 r room (sectionLines (now (s .entry)) (blockOutcome (now (s .entry)) (kindMeans kind) b)) ⌝ }

@@ -1,2 +1,3 @@
 pub mod MaterialLaws
 pub mod FiniteLaws
+pub mod NumberLaws

@@ -4,7 +4,7 @@ use mathlib.Core.Bool.{Bool, true, false, _&&_, _||_}
 use mathlib.Core.List.{List, []}
 use mathlib.Core.Logic.{⊎-elim}
 use mathlib.Core.Path.{_≡_, refl, sym, ap, _∙_}
-use native.Mathlib.Nat.{add-assoc, add-zero}
+use native.Mathlib.Nat.{add-assoc, add-zero, zero-add}
 use native.Mathlib.Omega.{arith}
 use borrow.Author.Tests.{eq-eqb, ne-eqb}
 use lib.Dec.{eqb, lit≤, lit<}
@@ -12,23 +12,25 @@ use lib.ListN.{length, take, drop, getD}
 use lib.Ieee.{Float}
 use Rattle.util.specs.View.{wordAt, view}
 use Rattle.util.specs.Fixed.{fix1-10-5}
-use Rattle.util.specs.declared.cur.Reach.{Reach}
-use Rattle.util.specs.declared.cur.Reach.the-variants.{Whole, Refused}
-use Rattle.util.specs.Reader.{Reader, done, accepted, refused, run, bind, each}
-use Rattle.util.specs.ReaderCode.{reachOf}
+use Rattle.util.specs.declared.cur.Tally.{Tally}
+use Rattle.util.specs.declared.cur.Tally.the-variants.{Whole, Refused}
+use Rattle.util.specs.Reader.{Reader, done, accepted, refused, run, bind, bytes, word, each}
+use Rattle.util.specs.ReaderCode.{tallyOf}
+use Rattle.util.specs.Sums.{total}
 use Rattle.util.proofs.Cut.{le-or-lt, had, past, short, no-further, max-right, to}
-use Rattle.util.proofs.ReadsLaws.{goes-on, stops}
-use Rattle.util.proofs.Each.{rest, next, ended, all, whole-of, refused-of, from-zero, each-read, items-read}
+use Rattle.util.proofs.Calls.{accepted-first}
+use Rattle.util.proofs.ReadsLaws.{goes-on, stops, done-is}
+use Rattle.util.proofs.Each.{rest, next, ended, all, from-none, counted-of, uncounted-of, from-zero, each-read, items-read}
 use Rattle.util.proofs.ViewLaws.{word-part, view-take}
 use Rattle.matrix.specs.declared.Mat4.{Mat4}
 use Rattle.matrix.specs.Matrix.{f0, translation4}
 use Rattle.info_block.specs.declared.InfoBlock.{InfoBlock}
 use Rattle.info_block.specs.declared.BlockRead.{BlockRead}
 use Rattle.material_animation.specs.declared.MaterialAnimation.{MaterialAnimation as Known}
-use Rattle.curve.specs.Curve.{Curve, none, samples, mix, sampleAt, numberOf}
+use Rattle.curve.specs.Curve.{Curve, none, samples, sampleCount, mix, sampleAt, numberOf}
 use Rattle.info_block.specs.InfoBlock.{Block, infoBlock}
 use Rattle.info_block.specs.InfoBlockCode.{blockAt, BlockReads}
-use Rattle.material_animation.specs.MaterialAnimation.{MaterialAnimation, carries, channelList, channel, channelNumbers, channels, materialAnimation, uvMatrixAt}
+use Rattle.material_animation.specs.MaterialAnimation.{MaterialAnimation, trackSamples, carries, channelList, channel, channelNumbers, channels, materialAnimation, uvMatrixAt}
 use Rattle.material_animation.specs.MaterialAnimationCode.{trackAt, ChannelGives, TrackIs, WholeMaterial}
 
 -- ---- a channel
@@ -96,37 +98,44 @@ module _ (s : List ℕ) (track n : ℕ) (h : n < 5) where
 -- ---- the channels of a track
 
 module _ (s : List ℕ) (track : ℕ) where
-  -- what is left from channel i on
-  abbrev left : ℕ → ℕ → Reach
-  left i m = rest (channel (trackAt s track)) s channelNumbers 0 i m
+  -- what is left from channel i on, where n values have been counted
+  abbrev left : ℕ → ℕ → ℕ → Tally
+  left i m n = rest sampleCount (channel (trackAt s track)) s channelNumbers 0 i m n
 
   -- channel i is accepted: go on; or it is refused, and so are the channels
-  go-on : (i m j : ℕ) (c : Curve Float) → i < 5 → run (channel (trackAt s track) (getD channelNumbers i 0)) s m ≡ accepted j c → left i m ≡ left (i + 1) j
-  go-on i m j c h e = next (channel (trackAt s track)) s channelNumbers 0 i m j h (ap reachOf e)
+  go-on : (i m n j : ℕ) (c : Curve Float) → i < 5 → run (channel (trackAt s track) (getD channelNumbers i 0)) s m ≡ accepted j c → left i m n ≡ left (i + 1) j (n + sampleCount c)
+  go-on i m n j c h e = next sampleCount (channel (trackAt s track)) s channelNumbers 0 i m n j (sampleCount c) h (ap (tallyOf sampleCount) e)
 
-  stop : (i m n : ℕ) → i < 5 → run (channel (trackAt s track) (getD channelNumbers i 0)) s m ≡ refused n → left i m ≡ Refused n
-  stop i m n h e = ended (channel (trackAt s track)) s channelNumbers 0 i m n h (ap reachOf e)
+  stop : (i m n k : ℕ) → i < 5 → run (channel (trackAt s track) (getD channelNumbers i 0)) s m ≡ refused k → left i m n ≡ Refused k
+  stop i m n k h e = ended sampleCount (channel (trackAt s track)) s channelNumbers 0 i m n k h (ap (tallyOf sampleCount) e)
 
   module _ (reach : ℕ) where
     passed : (i : ℕ) → i < 3 → run (channel (trackAt s track) i) s reach ≡ accepted reach none
     passed i h = channel-low s track i (omega arith) reach h
 
-    first-three : left 0 reach ≡ left 3 reach
-    first-three = go-on 0 reach reach none (lit< tt) (passed 0 (lit< tt)) ∙ (go-on 1 reach reach none (lit< tt) (passed 1 (lit< tt)) ∙ go-on 2 reach reach none (lit< tt) (passed 2 (lit< tt)))
+    abbrev tracked : Tally
+    tracked = tallyOf trackSamples (run (channels (trackAt s track)) s reach)
+
+    first-three : tracked ≡ left 3 reach 0
+    first-three =
+        sym (from-none sampleCount (run (channels (trackAt s track)) s reach))
+        ∙ (go-on 0 reach 0 reach none (lit< tt) (passed 0 (lit< tt))
+        ∙ (go-on 1 reach 0 reach none (lit< tt) (passed 1 (lit< tt))
+        ∙ go-on 2 reach 0 reach none (lit< tt) (passed 2 (lit< tt))))
 
     -- channel 3 is refused; or 4 is; or both are whole
-    pub track-no-u : (n : ℕ) → run (channel (trackAt s track) 3) s reach ≡ refused n → left 0 reach ≡ Refused n
-    track-no-u n e = first-three ∙ stop 3 reach n (lit< tt) e
+    pub track-no-u : (n : ℕ) → run (channel (trackAt s track) 3) s reach ≡ refused n → tracked ≡ Refused n
+    track-no-u n e = first-three ∙ stop 3 reach 0 n (lit< tt) e
 
     module _ (u : Curve Float) (far : ℕ) (e : run (channel (trackAt s track) 3) s reach ≡ accepted far u) where
-      first-four : left 0 reach ≡ left 4 far
-      first-four = first-three ∙ go-on 3 reach far u (lit< tt) e
+      first-four : tracked ≡ left 4 far (sampleCount u)
+      first-four = first-three ∙ (go-on 3 reach 0 far u (lit< tt) e ∙ ap (left 4 far) (zero-add (sampleCount u)))
 
-      pub track-no-v : (n : ℕ) → run (channel (trackAt s track) 4) s far ≡ refused n → left 0 reach ≡ Refused n
-      track-no-v n q = first-four ∙ stop 4 far n (lit< tt) q
+      pub track-no-v : (n : ℕ) → run (channel (trackAt s track) 4) s far ≡ refused n → tracked ≡ Refused n
+      track-no-v n q = first-four ∙ stop 4 far (sampleCount u) n (lit< tt) q
 
-      pub track-whole : (v : Curve Float) (end : ℕ) → run (channel (trackAt s track) 4) s far ≡ accepted end v → left 0 reach ≡ Whole end
-      track-whole v end q = first-four ∙ (go-on 4 far end v (lit< tt) q ∙ all (channel (trackAt s track)) s channelNumbers 0 5 end (lit≤ tt))
+      pub track-whole : (v : Curve Float) (end : ℕ) → run (channel (trackAt s track) 4) s far ≡ accepted end v → tracked ≡ Whole end (sampleCount u + sampleCount v)
+      track-whole v end q = first-four ∙ (go-on 4 far (sampleCount u) end v (lit< tt) q ∙ all sampleCount (channel (trackAt s track)) s channelNumbers 0 5 end (sampleCount u + sampleCount v) (lit≤ tt))
 
 -- ---- the entry
 
@@ -157,14 +166,14 @@ module _ (s : List ℕ) where
       block-read : run materialAnimation s 0 ≡ run (afterBlock block) s (b .end)
       block-read = let i = w 8 .holds in header-read ∙ goes-on _ _ _ _ _ _ (w 8 .reads ∙ to _ _ _ (max-right 8 (b .end) (omega arith)))
 
-      module _ (r : Reach) (e : r ≡ reachOf (run (each channels (block .datums)) s (b .end))) where
+      module _ (r : Tally) (e : r ≡ tallyOf (total trackSamples) (run (each channels (block .datums)) s (b .end))) where
         pub tracks-refused : (n : ℕ) → r ≡ Refused n → run materialAnimation s 0 ≡ refused n
-        tracks-refused n q = block-read ∙ stops _ _ _ _ n (refused-of _ n (sym e ∙ q))
+        tracks-refused n q = block-read ∙ stops _ _ _ _ n (uncounted-of _ _ n (sym e ∙ q))
 
-        pub tracks-whole : (m frames : ℕ) → r ≡ Whole m → frames ≡ wordAt 2 s 4 → WholeMaterial s (record { frames = frames; block = b; reach = m })
+        pub tracks-whole : (m n frames : ℕ) → r ≡ Whole m n → frames ≡ wordAt 2 s 4 → WholeMaterial s (record { frames = frames; block = b; reach = m; samples = n })
         unfolding run
-        tracks-whole m frames q f =
-            let v = whole-of (run (each channels (block .datums)) s (b .end)) m (sym e ∙ q) in
+        tracks-whole m n frames q f =
+            let v = counted-of (total trackSamples) (run (each channels (block .datums)) s (b .end)) m n (sym e ∙ q) in
             record {
               held = heldOf block (v .0);
               reads = block-read ∙ goes-on _ _ _ _ _ _ (v .1);
@@ -172,6 +181,7 @@ module _ (s : List ℕ) where
               block = w 0;
               names = refl;
               tracks = from-zero (each channels (block .datums)) s (b .end) m (v .0) (v .1);
+              samples = v .2;
               inside = no-further (each channels (block .datums)) s (b .end) m (v .0) (v .1) (w 0 .holds .inside);
             }
 
@@ -200,3 +210,18 @@ module _ (s : List ℕ) (a : Known) (w : WholeMaterial s a) where
 
   pub track-of : (i : ℕ) → i < a .block .count → TrackIs s (a .block .datums + 40 * i) (getD (w .held .tracks) i [])
   track-of i h = let k = tracks-are .1 i [] h in record { reach = k .0; reads = k .1 }
+
+-- every track of an entry that is accepted has five channels
+pub five-channels : (s : List ℕ) (m j : ℕ) (v : MaterialAnimation) → run materialAnimation s m ≡ accepted j v → (t : ℕ) → t < length (v .tracks) → length (getD (v .tracks) t []) ≡ 5
+unfolding materialAnimation
+five-channels s m j v e t h =
+    let a = accepted-first (bytes 0 4) _ s m j v e in
+    let b = accepted-first (word 4 2) _ s (a .0) j v (a .3) in
+    let c = accepted-first (word 6 2) _ s (b .0) j v (b .3) in
+    let d = accepted-first (infoBlock 8 40) _ s (c .0) j v (c .3) in
+    let w = accepted-first (each channels (d .1 .datums)) _ s (d .0) j v (d .3) in
+    let q = ap (λ (x : MaterialAnimation). x .tracks) (done-is _ s (w .0) j v (w .3)) in
+    let r = each-read channels s (d .1 .datums) (d .0) (w .0) (w .1) (w .2) in
+    let l : t < length (d .1 .datums) = let x = ap length q in let y = r .0 in omega arith in
+    let k = r .1 t [] [] l in
+    ap (λ (ts : List (List (Curve Float))). length (getD ts t [])) (sym q) ∙ each-read (channel (getD (d .1 .datums) t [])) s channelNumbers 0 (k .0) _ (k .1) .0

@@ -8,9 +8,10 @@ use lib.Ieee.{Float}
 use Rattle.util.specs.View.{wordAt}
 use Rattle.util.specs.Reader.{Reader, done, _>>=_, _>>_, bytes, word, list, each}
 use Rattle.util.specs.Fixed.{fix1-10-5}
+use Rattle.util.specs.Sums.{total}
 use Rattle.matrix.specs.declared.Mat4.{Mat4}
 use Rattle.matrix.specs.Matrix.{f0, translation4}
-use Rattle.curve.specs.Curve.{Curve, none, samples, numberOf, mix, sampleAt}
+use Rattle.curve.specs.Curve.{Curve, none, samples, sampleCount, numberOf, mix, sampleAt}
 use Rattle.info_block.specs.Name.{Name}
 use Rattle.info_block.specs.InfoBlock.{infoBlock}
 
@@ -19,6 +20,10 @@ pub record MaterialAnimation : Type 0 where
   pub names : List Name
   -- the five channels of each track
   pub tracks : List (List (Curve Float))
+
+-- how many values the lists of a track's channels have
+abbrev pub trackSamples : List (Curve Float) → ℕ
+trackSamples = total sampleCount
 
 -- a list that starts at frame 0, with a value for each frame
 unfoldable pub channelList : ℕ → ℕ → Reader (Curve Float)

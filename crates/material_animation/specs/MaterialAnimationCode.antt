@@ -6,13 +6,14 @@ use lib.ListN.{length, take, drop}
 use lib.Ieee.{Float}
 use Rattle.util.specs.Reader.{Outcome, accepted, refused, run, each}
 use Rattle.util.specs.ReaderCode.{Reads}
+use Rattle.util.specs.Sums.{total}
 use Rattle.material_animation.specs.declared.MaterialAnimation.{MaterialAnimation as Known}
 use Rattle.material_animation.specs.declared.MatAnimRead.{MatAnimRead}
 use Rattle.material_animation.specs.declared.ChannelRead.{ChannelRead}
 use Rattle.curve.specs.Curve.{Curve}
 use Rattle.curve.specs.CurveCode.{scalarCurve, Inside}
 use Rattle.info_block.specs.InfoBlockCode.{blockAt, WholeBlock}
-use Rattle.material_animation.specs.MaterialAnimation.{MaterialAnimation, channel, channels, materialAnimation}
+use Rattle.material_animation.specs.MaterialAnimation.{MaterialAnimation, trackSamples, channel, channels, materialAnimation}
 
 -- the track whose datum stands at a position
 abbrev pub trackAt : List ℕ → ℕ → List ℕ
@@ -51,6 +52,7 @@ pub record WholeMaterial (s : List ℕ) (a : Known) : Type 0 where
   pub block : WholeBlock s 8 40 (a .block)
   pub names : held .names ≡ blockAt s 40 (a .block) .names
   pub tracks : (m : ℕ) × (run (each channels (blockAt s 40 (a .block) .datums)) s 0 ≡ accepted m (held .tracks))
+  pub samples : total trackSamples (held .tracks) ≡ a .samples
   pub inside : a .reach ≤ length s
 
 abbrev pub MaterialIs : List ℕ → MatAnimRead → Type 0

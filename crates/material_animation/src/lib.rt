@@ -2,12 +2,13 @@
 use curve::Number;
 use curve::SampleList;
 use curve::ScalarCurve;
+use curve::sample_count;
 use curve::sample_scalar;
 use info_block::BlockRead;
 use info_block::InfoBlock;
 use matrix::Mat4;
 use matrix::from_translation;
-use util::cur::Reach;
+use util::cur::Tally;
 use util::cur::greater;
 use util::view::byte;
 use util::view::word16;
@@ -19,17 +20,19 @@ ghost use lib.ListN.{length, drop};
 ghost use lib.Ieee.{Float};
 ghost use Rattle.matrix.specs.Matrix.{f0};
 ghost use Rattle.util.specs.Reader.{run, each};
-ghost use Rattle.util.specs.ReaderCode.{reachOf};
+ghost use Rattle.util.specs.ReaderCode.{tallyOf};
+ghost use Rattle.util.specs.Sums.{total};
 ghost use Rattle.util.specs.View.{view};
 ghost use Rattle.curve.specs.Curve.{Curve, mix, sampleAt};
-ghost use Rattle.material_animation.specs.MaterialAnimation.{channels, uvMatrixAt};
+ghost use Rattle.material_animation.specs.MaterialAnimation.{channels, trackSamples, uvMatrixAt};
 ghost use Rattle.material_animation.specs.MaterialAnimationCode.{trackAt, ChannelReads, ChannelGives, TrackIs, MaterialIs};
 
-// What is known of a whole entry: its frames, its tracks and its reach.
+// What is known of a whole entry: its frames, its tracks, its reach, and how many values its lists have.
 pub struct MaterialAnimation {
     pub frames: u16,
     pub block: InfoBlock,
     pub reach: usize,
+    pub samples: u64,
 }
 
 pub enum MatAnimRead {
@@ -76,35 +79,41 @@ pub fn read_channel(s: &[u8], track: usize, n: usize, reach: usize) -> ChannelRe
     )
 }
 
-// How far the channels of a track reach: 3 and 4 alone can carry a list.
-fn follow_channels(s: &[u8], track: usize, reach: usize) -> Reach
+// How far the channels of a track reach, and how many values their lists have: 3 and 4 alone can carry a list.
+fn follow_channels(s: &[u8], track: usize, reach: usize) -> Tally
     requires { ⌜ track + 40 ≤ length (now s) ⌝ }
-    ensures { λ r. ⌜ r ≡ reachOf (run (channels (trackAt (now (s .entry)) track)) (now (s .entry)) reach) ⌝ }
+    ensures { λ r. ⌜ r ≡ tallyOf trackSamples (run (channels (trackAt (now (s .entry)) track)) (now (s .entry)) reach) ⌝ }
 {
     match read_channel(s, track, 3, reach) {
-        ChannelRead::Whole(_, far) => match read_channel(s, track, 4, far) {
-            ChannelRead::Whole(_, end) => Reach::Whole(end),
-            ChannelRead::Refused(n) => Reach::Refused(n),
+        ChannelRead::Whole(u, far) => match read_channel(s, track, 4, far) {
+            ChannelRead::Whole(v, end) => {
+                Tally::Whole(end, sample_count(u) as u64 + sample_count(v) as u64)
+            }
+            ChannelRead::Refused(n) => Tally::Refused(n),
         },
-        ChannelRead::Refused(n) => Reach::Refused(n),
+        ChannelRead::Refused(n) => Tally::Refused(n),
     }
 }
 
-// How far the tracks reach whose datums stand at `datums`.
-fn follow_tracks(s: &[u8], datums: usize, count: usize, reach: usize) -> Reach
-    requires { ⌜ datums + 40 * count ≤ length (now s) ⌝ }
-    ensures { λ r. ⌜ r ≡ reachOf (run (each channels (view 40 (λ bs. bs) count (drop datums (now (s .entry))))) (now (s .entry)) reach) ⌝ }
+// How far the tracks reach whose datums stand at `datums`, and how many values their lists have.
+fn follow_tracks(s: &[u8], datums: usize, count: usize, reach: usize) -> Tally
+    requires { ⌜ (datums + 40 * count ≤ length (now s)) × (count < 256) ⌝ }
+    ensures { λ r. ⌜ r ≡ tallyOf (total trackSamples) (run (each channels (view 40 (λ bs. bs) count (drop datums (now (s .entry))))) (now (s .entry)) reach) ⌝ }
 {
     let mut far = reach;
+    let mut samples = 0u64;
     let mut i = 0usize;
     while i < count {
         match follow_channels(s, datums + 40 * i, far) {
-            Reach::Whole(m) => far = m,
-            Reach::Refused(n) => return Reach::Refused(n),
+            Tally::Whole(m, values) => {
+                far = m;
+                samples += values;
+            }
+            Tally::Refused(n) => return Tally::Refused(n),
         }
         i += 1;
     }
-    Reach::Whole(far)
+    Tally::Whole(far, samples)
 }
 
 // An entry, read whole.
@@ -119,12 +128,13 @@ pub fn read_mat_anim(s: &[u8]) -> MatAnimRead
         BlockRead::Refused(n) => return MatAnimRead::Refused(n),
     };
     match follow_tracks(s, block.datums, block.count, block.end) {
-        Reach::Whole(reach) => MatAnimRead::Whole(MaterialAnimation {
+        Tally::Whole(reach, samples) => MatAnimRead::Whole(MaterialAnimation {
             frames: word16(s, 4),
             block,
             reach,
+            samples,
         }),
-        Reach::Refused(n) => MatAnimRead::Refused(n),
+        Tally::Refused(n) => MatAnimRead::Refused(n),
     }
 }
 

@@ -6,15 +6,15 @@ use mathlib.Core.Logic.{_⊎_, inl, inr, ⊎-elim}
 use mathlib.Core.Path.{_≡_, refl, sym, ap, _∙_}
 use native.Mathlib.Omega.{arith}
 use borrow.Author.Tests.{le-ltb, lt-ltb}
-use lib.Dec.{lit≤}
+use lib.Dec.{ltb, lit≤}
 use lib.ListN.{length, take, drop, getD}
 use Rattle.util.specs.View.{little, wordAt, same}
 use Rattle.util.specs.Reader.{Reader, done, Outcome, accepted, refused, ends, run, bind, unless, Verdict, answered, denied, tell}
 use Rattle.util.specs.Place.{within, moved, raised}
-use Rattle.util.proofs.Calls.{after, run-bind-as}
-use Rattle.util.proofs.ReadsLaws.{goes-on}
+use Rattle.util.proofs.Calls.{after, run-bind-as, accepted-first}
+use Rattle.util.proofs.ReadsLaws.{goes-on, done-is}
 use Rattle.util.proofs.Cut.{le-or-lt, had, had-part, short, max-right}
-use Rattle.util.proofs.Place.{run-within}
+use Rattle.util.proofs.Place.{run-within, lowered}
 use Rattle.util.proofs.ViewLaws.{same-like, view-there}
 use Rattle.info_block.specs.declared.InfoBlock.{InfoBlock}
 use Rattle.info_block.specs.declared.BlockRead.{BlockRead}
@@ -148,6 +148,18 @@ unfolding animation materialAnimation pattern bind
 value-within jnt off s m = run-within off 0 4 _ s m (lit≤ tt)
 value-within srt off s m = run-within off 0 4 _ s m (lit≤ tt)
 value-within pat off s m = run-within off 0 4 _ s m (lit≤ tt)
+
+-- what an accepted entry holds was read from its offset onward
+pub held-read : (k : Kind) (s : List ℕ) (i m j : ℕ) (e : Entry k) → run (entry k i) s m ≡ accepted j e → (n : ℕ) × (run (value k) (drop (e .offset) s) 0 ≡ accepted n (e .held))
+unfolding entry entryIn
+held-read k s i m j e h =
+    let b = accepted-first section (entryIn k i) s m j e h in
+    let off = little (getD (b .1 .datums) i []) in
+    let c = accepted-first (unless (ltb i (b .1 .count)) 9) _ s (b .0) j e (b .3) in
+    let d = accepted-first (within off (value k)) _ s (c .0) j e (c .3) in
+    let q = done-is _ s (d .0) j e (d .3) in
+    let w = lowered (c .0) off (run (value k) (drop off s) 0) (d .0) (d .1) (sym (value-within k off s (c .0)) ∙ d .2) in
+    (w .0, ap (λ (x : Entry k). run (value k) (drop (x .offset) s) 0) (sym q) ∙ (w .1 ∙ ap (λ (x : Entry k). accepted (w .0) (x .held)) q))
 
 -- ---- what the code of container.rt finds
 

@@ -67,11 +67,11 @@ module _ (k : Kind) (s : List ℕ) (i : ℕ) (e : EntryAt) (w : EntryReads s i (
   held-refused n q = sym (stops _ _ _ _ n (w k .reads ∙ ap (entryFrom k s e) q))
 
   pub held-whole : (h : Held) → HeldIs k (drop (e .offset) s) h → (name : Name) (reach : ℕ) → name ≡ take 16 (drop (e .name) s) → reach ≡ max (e .end) (e .offset + h .reach)
-      → accepted reach (record { name = name; frames = h .frames; count = h .count }) ≡ checked
+      → accepted reach (record { name = name; frames = h .frames; count = h .count; samples = h .samples }) ≡ checked
   unfolding run
   held-whole h v name reach p q =
       sym (goes-on _ _ _ _ _ _ (w k .reads ∙ ap (entryFrom k s e) (v .reads))
-      ∙ (λ j. accepted (sym q j) (record { name = sym p j; frames = v .frames j; count = v .count j })))
+      ∙ (λ j. accepted (sym q j) (record { name = sym p j; frames = v .frames j; count = v .count j; samples = v .samples j })))
 
 -- ---- kinds
 

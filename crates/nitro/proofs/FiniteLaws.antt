@@ -1,16 +1,23 @@
--- What an entry of each kind holds is so large at most that no entry of a matrix is a NaN or an infinity. Assumes nothing.
-use Prim.Native.Nat.{ℕ}
-use Rattle.util.proofs.All.{All, all-any, all-bind, all-after, all-within}
-use Rattle.animation.proofs.FiniteLaws.{SizedAnimation, animation-all}
-use Rattle.material_animation.proofs.FiniteLaws.{SizedMaterial, material-all}
-use Rattle.pattern.specs.Pattern.{pattern}
-use Rattle.nitro.specs.Container.{Kind, jnt, srt, pat, Value, value, entryIn, entry}
+-- What an entry of each kind holds is so large at most that no entry of a matrix is a NaN or an infinity, and so few that all its lists
+-- together have fewer than 2^40 values. Assumes nothing.
+use Prim.Native.Nat.{ℕ, _<_}
+use Rattle.util.proofs.All.{All, all-bind, all-after, all-within}
+use Rattle.util.proofs.SumsLaws.{entryBound}
+use Rattle.animation.proofs.FiniteLaws.{SizedAnimation, animation-all, animation-few}
+use Rattle.material_animation.proofs.FiniteLaws.{SizedMaterial, material-all, material-few}
+use Rattle.pattern.proofs.FewLaws.{FewPattern, pattern-all, pattern-few}
+use Rattle.nitro.specs.Container.{Kind, jnt, srt, pat, Value, value, entryIn, entry, samplesOf}
 
 -- what an entry of each kind holds
 abbrev pub SizedValue : (k : Kind) → Value k → Type 0
 SizedValue jnt a = SizedAnimation a
 SizedValue srt a = SizedMaterial a
-SizedValue pat a = Unit {0}
+SizedValue pat a = FewPattern a
+
+pub samples-few : (k : Kind) (v : Value k) → SizedValue k v → samplesOf k v < entryBound
+samples-few jnt v h = animation-few v h
+samples-few srt v h = material-few v h
+samples-few pat v h = pattern-few v h
 
 pub entry-all : (k : Kind) (i : ℕ) → All (λ e. SizedValue k (e .held)) (entry k i)
 unfolding entry entryIn
@@ -22,4 +29,4 @@ entry-all k i =
     value-all : (k : Kind) → All (SizedValue k) (value k)
     value-all jnt = animation-all
     value-all srt = material-all
-    value-all pat = all-any pattern
+    value-all pat = pattern-all

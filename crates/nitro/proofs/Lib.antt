@@ -1,3 +1,4 @@
 pub mod ContainerLaws
 pub mod FiniteLaws
 pub mod EntryLaws
+pub mod NumberLaws

@@ -5,13 +5,14 @@ use mathlib.Core.List.{List, [], _∷_}
 use lib.Dec.{ltb}
 use lib.ListN.{length, getD}
 use Rattle.util.specs.View.{little, same}
+use Rattle.util.specs.Sums.{total}
 use Rattle.util.specs.Reader.{Reader, done, part, bind, _>>=_, _>>_, word, unless, Verdict, answered, denied, tell}
 use Rattle.util.specs.Place.{within}
 use Rattle.info_block.specs.Name.{Name}
 use Rattle.info_block.specs.InfoBlock.{Block, infoBlock}
-use Rattle.animation.specs.Animation.{Animation, animation}
-use Rattle.material_animation.specs.MaterialAnimation.{MaterialAnimation, materialAnimation}
-use Rattle.pattern.specs.Pattern.{Pattern, pattern}
+use Rattle.animation.specs.Animation.{Animation, objectSamples, animation}
+use Rattle.material_animation.specs.MaterialAnimation.{MaterialAnimation, trackSamples, materialAnimation}
+use Rattle.pattern.specs.Pattern.{Pattern, keyCount, pattern}
 
 -- the three kinds of section
 pub data Kind : Type 0 where
@@ -74,11 +75,13 @@ entryOf k i = bind (stamped (k ∷ [])) (λ _. entry k i)
 
 -- ---- the record of an entry
 
--- the record that the entry check answers, beside the reach: how many objects or tracks the entry has is its count
+-- the record that the entry check answers, beside the reach: how many objects or tracks the entry has is its count, how long all its lists
+-- are together its samples
 pub record EntryRecord : Type 0 where
   pub name : Name
   pub frames : ℕ
   pub count : ℕ
+  pub samples : ℕ
 
 abbrev pub frameCount : (k : Kind) → Value k → ℕ
 frameCount jnt v = v .frames
@@ -90,5 +93,12 @@ countOf jnt v = length (v .objects)
 countOf srt v = length (v .tracks)
 countOf pat v = length (v .tracks)
 
+-- The lengths of all its lists, added up: those of each object's seven curves, of each track's channels, of each track's keys. A list that
+-- is shared counts each time; constants, missing curves and lists of names count nothing.
+abbrev pub samplesOf : (k : Kind) → Value k → ℕ
+samplesOf jnt v = total objectSamples (v .objects)
+samplesOf srt v = total trackSamples (v .tracks)
+samplesOf pat v = total keyCount (v .tracks)
+
 abbrev pub recordOf : (k : Kind) → Entry k → EntryRecord
-recordOf k e = record { name = e .name; frames = frameCount k (e .held); count = countOf k (e .held) }
+recordOf k e = record { name = e .name; frames = frameCount k (e .held); count = countOf k (e .held); samples = samplesOf k (e .held) }

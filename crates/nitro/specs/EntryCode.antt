@@ -21,12 +21,12 @@ use Rattle.nitro.specs.declared.entry.AnimationOpen.{AnimationOpen}
 use Rattle.nitro.specs.declared.entry.MaterialOpen.{MaterialOpen}
 use Rattle.nitro.specs.declared.entry.PatternOpen.{PatternOpen}
 use Rattle.nitro.specs.declared.entry.ValueRead.{ValueRead}
-use Rattle.nitro.specs.Container.{Kind, jnt, srt, pat, Value, value, EntryRecord, frameCount, countOf, entryOf}
+use Rattle.nitro.specs.Container.{Kind, jnt, srt, pat, Value, value, EntryRecord, frameCount, countOf, samplesOf, entryOf}
 use Rattle.nitro.specs.ContainerCode.{entryMeans}
 
 -- the entry check: the number, or the record with the reach
 abbrev pub checkMeans : EntryCheck → Outcome EntryRecord
-checkMeans (EntryCheck.Whole e) = accepted (e .reach) (record { name = nameMeans (e .name); frames = e .frames; count = e .count })
+checkMeans (EntryCheck.Whole e) = accepted (e .reach) (record { name = nameMeans (e .name); frames = e .frames; count = e .count; samples = e .samples })
 checkMeans (EntryCheck.Refused n) = refused n
 
 abbrev pub kindNumber : CodeKind → ℕ
@@ -37,12 +37,13 @@ kindNumber Pat = 2
 abbrev pub sameKind : CodeKind → CodeKind → Bool
 sameKind a b = eqb (kindNumber a) (kindNumber b)
 
--- what an entry holds, by its frames and how many objects or tracks it has
+-- what an entry holds, by its frames, how many objects or tracks it has, and how long its lists are together
 pub record HeldIs (k : Kind) (s : List ℕ) (h : Held) : Type 0 where
   pub held : Value k
   pub reads : run (value k) s 0 ≡ accepted (h .reach) held
   pub frames : frameCount k held ≡ h .frames
   pub count : countOf k held ≡ h .count
+  pub samples : samplesOf k held ≡ h .samples
   pub inside : h .reach ≤ length s
 
 abbrev pub ValueIs : Kind → List ℕ → ValueRead → Type 0

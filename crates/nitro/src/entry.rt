@@ -25,12 +25,14 @@ ghost use Rattle.nitro.specs.Container.{allKinds, stamped, entry, record
 ghost use Rattle.nitro.specs.ContainerCode.{kindMeans, EntryReads};
 ghost use Rattle.nitro.specs.EntryCode.{checkMeans, kindNumber, sameKind, ValueIs, OpenReads, AnimationOpens, MaterialOpens, PatternOpens};
 
-// What the check finds of a whole entry: its record and its reach. `count` is how many objects or tracks it has.
+// What the check finds of a whole entry: its record and its reach. `count` is how many objects or tracks it has, `samples` how long its lists
+// are together.
 pub struct Checked {
     pub name: Name,
     pub reach: usize,
     pub frames: u16,
     pub count: usize,
+    pub samples: u64,
 }
 
 pub enum EntryCheck {
@@ -42,6 +44,7 @@ pub enum EntryCheck {
 pub struct Held {
     pub frames: u16,
     pub count: usize,
+    pub samples: u64,
     pub reach: usize,
 }
 
@@ -58,6 +61,7 @@ fn read_jnt(s: &[u8]) -> ValueRead
         AnimationRead::Whole(a) => ValueRead::Whole(Held {
             frames: a.frames,
             count: a.objects,
+            samples: a.samples,
             reach: a.reach,
         }),
     }
@@ -71,6 +75,7 @@ fn read_srt(s: &[u8]) -> ValueRead
         MatAnimRead::Whole(a) => ValueRead::Whole(Held {
             frames: a.frames,
             count: a.block.count,
+            samples: a.samples,
             reach: a.reach,
         }),
     }
@@ -84,6 +89,7 @@ fn read_pat(s: &[u8]) -> ValueRead
         PatternRead::Whole(a) => ValueRead::Whole(Held {
             frames: a.frames,
             count: a.block.count,
+            samples: a.samples,
             reach: a.reach,
         }),
     }
@@ -116,6 +122,7 @@ fn check_at(s: &[u8], kind: Kind, i: usize, e: EntryAt) -> EntryCheck
             reach: greater(e.end, off + h.reach),
             frames: h.frames,
             count: h.count,
+            samples: h.samples,
         }),
     }
 }

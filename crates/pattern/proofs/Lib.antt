@@ -1,1 +1,3 @@
 pub mod PatternLaws
+pub mod FewLaws
+pub mod NumberLaws

@@ -11,13 +11,14 @@ use borrow.Author.Tests.{lt-ltb, le-ltb}
 use lib.ListN.{length, take, drop, getD, drop-of-length-le}
 use lib.Seq.{drop-cons}
 use Rattle.util.specs.View.{wordAt, view}
-use Rattle.util.specs.declared.cur.Reach.{Reach}
-use Rattle.util.specs.declared.cur.Reach.the-variants.{Whole, Refused}
+use Rattle.util.specs.declared.cur.Tally.{Tally}
+use Rattle.util.specs.declared.cur.Tally.the-variants.{Whole, Refused}
 use Rattle.util.specs.Reader.{Reader, done, accepted, refused, run, bind, each, unless}
-use Rattle.util.specs.ReaderCode.{reachOf}
+use Rattle.util.specs.ReaderCode.{tallyOf}
+use Rattle.util.specs.Sums.{total}
 use Rattle.util.proofs.Cut.{le-or-lt, had, short, past, no-further}
 use Rattle.util.proofs.ReadsLaws.{goes-on, stops, one-value, not-both}
-use Rattle.util.proofs.Each.{whole-of, refused-of, from-zero, items-read}
+use Rattle.util.proofs.Each.{counted-of, uncounted-of, from-zero, items-read}
 use Rattle.util.proofs.ViewLaws.{word-part, view-there, view-length, view-take}
 use Rattle.info_block.specs.declared.InfoBlock.{InfoBlock}
 use Rattle.info_block.specs.declared.BlockRead.{BlockRead}
@@ -25,7 +26,7 @@ use Rattle.pattern.specs.declared.ItemList.{ItemList}
 use Rattle.pattern.specs.declared.Pattern.{Pattern as Known}
 use Rattle.info_block.specs.InfoBlock.{Block, infoBlock}
 use Rattle.info_block.specs.InfoBlockCode.{blockAt, BlockReads}
-use Rattle.pattern.specs.Pattern.{Key, Track, Pattern, keyOf, inside, track, pattern, firstLater, choice}
+use Rattle.pattern.specs.Pattern.{Key, Track, Pattern, keyCount, keyOf, inside, track, pattern, firstLater, choice}
 use Rattle.pattern.specs.PatternCode.{namesMean, ListedAt, WholePattern}
 
 -- ---- keys
@@ -41,7 +42,7 @@ module _ (s : List ℕ) (place count : ℕ) where
   abbrev pub keys : List Key
   keys = view 4 keyOf count (drop place s)
 
-  keys-length : length keys ≡ count
+  pub keys-length : length keys ≡ count
   keys-length = view-length 4 keyOf count (drop place s)
 
   pub keys-end : (i : ℕ) → count ≤ i → drop i keys ≡ []
@@ -180,14 +181,14 @@ module _ (s : List ℕ) (t p : ItemList) (et : ListedAt s 8 1 6 t) (ep : ListedA
       block-read : run pattern s 0 ≡ run (afterBlock block) s start
       block-read = names-had ∙ (goes-on _ _ _ _ _ _ (w before .reads) ∙ ap (run (afterBlock block) s) (sym es))
 
-      module _ (o : Reach) (e : o ≡ reachOf (run (tracksOf block) s start)) where
+      module _ (o : Tally) (e : o ≡ tallyOf (total keyCount) (run (tracksOf block) s start)) where
         pub tracks-refused : (n : ℕ) → o ≡ Refused n → run pattern s 0 ≡ refused n
-        tracks-refused n q = block-read ∙ stops _ _ _ _ n (refused-of _ n (sym e ∙ q))
+        tracks-refused n q = block-read ∙ stops _ _ _ _ n (uncounted-of _ _ n (sym e ∙ q))
 
-        pub tracks-whole : (f reach : ℕ) → f ≡ wordAt 2 s 4 → o ≡ Whole reach → WholePattern s (record { frames = f; textures = t; palettes = p; block = k; reach = reach })
+        pub tracks-whole : (f reach samples : ℕ) → f ≡ wordAt 2 s 4 → o ≡ Whole reach samples → WholePattern s (record { frames = f; textures = t; palettes = p; block = k; reach = reach; samples = samples })
         unfolding run
-        tracks-whole f reach ef q =
-            let r = whole-of (run (tracksOf block) s start) reach (sym e ∙ q) in
+        tracks-whole f reach samples ef q =
+            let r = counted-of (total keyCount) (run (tracksOf block) s start) reach samples (sym e ∙ q) in
             let reads : run pattern s 0 ≡ accepted reach (heldOf block (r .0)) = block-read ∙ goes-on _ _ _ _ _ _ (r .1) in
             record {
               held = heldOf block (r .0);
@@ -200,6 +201,7 @@ module _ (s : List ℕ) (t p : ItemList) (et : ListedAt s 8 1 6 t) (ep : ListedA
               block = w 0;
               names = refl;
               tracks = from-zero (tracksOf block) s start reach (r .0) (r .1);
+              samples = r .2;
               inside = no-further pattern s 0 reach (heldOf block (r .0)) reads (omega arith);
             }
 

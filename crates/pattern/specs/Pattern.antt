@@ -3,7 +3,7 @@ use Prim.Native.Nat.{ℕ, suc, _-_, _*_}
 use mathlib.Core.Bool.{Bool, true, _&&_, cond}
 use mathlib.Core.List.{List, [], _∷_}
 use lib.Dec.{ltb}
-use lib.ListN.{getD}
+use lib.ListN.{length, getD}
 use Rattle.util.specs.View.{wordAt}
 use Rattle.util.specs.Reader.{Reader, done, _>>=_, _>>_, bytes, word, list, each, unless}
 use Rattle.info_block.specs.Name.{Name}
@@ -18,6 +18,10 @@ pub record Key : Type 0 where
 pub record Track : Type 0 where
   pub place : ℕ
   pub keys : List Key
+
+-- how many keys it has
+abbrev pub keyCount : Track → ℕ
+keyCount t = length (t .keys)
 
 -- where a list of names stands, and how many it has
 pub record Names : Type 0 where

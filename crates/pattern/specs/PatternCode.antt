@@ -5,12 +5,13 @@ use mathlib.Core.Path.{_≡_}
 use lib.ListN.{length}
 use Rattle.util.specs.View.{wordAt}
 use Rattle.util.specs.Reader.{accepted, refused, run, each}
+use Rattle.util.specs.Sums.{total}
 use Rattle.pattern.specs.declared.ItemList.{ItemList}
 use Rattle.pattern.specs.declared.Pattern.{Pattern as Known}
 use Rattle.pattern.specs.declared.PatternKeyframe.{PatternKeyframe}
 use Rattle.pattern.specs.declared.PatternRead.{PatternRead}
 use Rattle.info_block.specs.InfoBlockCode.{blockAt, WholeBlock}
-use Rattle.pattern.specs.Pattern.{Key, Names, Pattern, track, pattern}
+use Rattle.pattern.specs.Pattern.{Key, keyCount, Names, Pattern, track, pattern}
 
 abbrev pub keyMeans : PatternKeyframe → Key
 keyMeans k = record { frame = k .frame; texture = k .«texture_idx» .0; palette = k .«palette_idx» .0 }
@@ -37,6 +38,7 @@ pub record WholePattern (s : List ℕ) (a : Known) : Type 0 where
   pub block : WholeBlock s 12 8 (a .block)
   pub names : held .names ≡ blockAt s 8 (a .block) .names
   pub tracks : (m : ℕ) × (run (each (track (a .textures .count) (a .palettes .count)) (blockAt s 8 (a .block) .datums)) s 0 ≡ accepted m (held .tracks))
+  pub samples : total keyCount (held .tracks) ≡ a .samples
   pub inside : a .reach ≤ length s
 
 abbrev pub PatternIs : List ℕ → PatternRead → Type 0

@@ -2,7 +2,7 @@
 use info_block::BlockRead;
 use info_block::InfoBlock;
 use info_block::read;
-use util::cur::Reach;
+use util::cur::Tally;
 use util::cur::greater;
 use util::view::byte;
 use util::view::word16;
@@ -12,8 +12,9 @@ ghost use Prim.Native.Nat.{_+_, _*_, _<_, _≤_};
 ghost use lib.ListN.{length, take, drop};
 ghost use Rattle.util.specs.View.{view};
 ghost use Rattle.util.specs.Reader.{run, each};
-ghost use Rattle.util.specs.ReaderCode.{reachOf};
-ghost use Rattle.pattern.specs.Pattern.{Key, keyOf, inside, track, firstLater, choice};
+ghost use Rattle.util.specs.ReaderCode.{tallyOf};
+ghost use Rattle.util.specs.Sums.{total};
+ghost use Rattle.pattern.specs.Pattern.{Key, keyCount, keyOf, inside, track, firstLater, choice};
 ghost use Rattle.pattern.specs.PatternCode.{keyMeans, ListedAt, PatternIs};
 
 // An index of the texture names.
@@ -34,13 +35,14 @@ pub struct ItemList {
     pub count: usize,
 }
 
-// What is known of a whole entry: its frames, its name lists, its tracks and its reach.
+// What is known of a whole entry: its frames, its name lists, its tracks, its reach, and how many keys it has.
 pub struct Pattern {
     pub frames: u16,
     pub textures: ItemList,
     pub palettes: ItemList,
     pub block: InfoBlock,
     pub reach: usize,
+    pub samples: u64,
 }
 
 pub enum PatternRead {
@@ -91,26 +93,26 @@ pub fn read_track_keys(s: &[u8], datum: usize) -> ItemList
     }
 }
 
-// The track whose datum stands at `datum`, after parts that reach as far as `reach`.
-fn read_track(s: &[u8], datum: usize, textures: usize, palettes: usize, reach: usize) -> Reach
+// The track whose datum stands at `datum`, after parts that reach as far as `reach`: how far it reaches, and how many keys it has.
+fn read_track(s: &[u8], datum: usize, textures: usize, palettes: usize, reach: usize) -> Tally
     requires { ⌜ datum + 8 ≤ length (now s) ⌝ }
-    ensures { λ r. ⌜ r ≡ reachOf (run (track textures palettes (take 8 (drop datum (now (s .entry))))) (now (s .entry)) reach) ⌝ }
+    ensures { λ r. ⌜ r ≡ tallyOf keyCount (run (track textures palettes (take 8 (drop datum (now (s .entry))))) (now (s .entry)) reach) ⌝ }
 {
     let keys = read_track_keys(s, datum);
     let place = keys.place;
     let count = keys.count;
     let end = place + 4 * count;
     if s.len() < end {
-        return Reach::Refused(2);
+        return Tally::Refused(2);
     }
     if keys_inside(s, place, count, textures, palettes) {
-        Reach::Whole(greater(reach, end))
+        Tally::Whole(greater(reach, end), count as u64)
     } else {
-        Reach::Refused(8)
+        Tally::Refused(8)
     }
 }
 
-// The tracks of the `count` datums at `datums`, one after the other.
+// The tracks of the `count` datums at `datums`, one after the other: how far they reach, and how many keys they have.
 fn follow_tracks(
     s: &[u8],
     datums: usize,
@@ -118,24 +120,26 @@ fn follow_tracks(
     textures: usize,
     palettes: usize,
     reach: usize,
-) -> Reach
-    requires { ⌜ datums + 8 * count ≤ length (now s) ⌝ }
-    ensures { λ r. ⌜ r ≡ reachOf (run (each (track textures palettes) (view 8 (λ bs. bs) count (drop datums (now (s .entry))))) (now (s .entry)) reach) ⌝ }
+) -> Tally
+    requires { ⌜ (datums + 8 * count ≤ length (now s)) × (count < 256) ⌝ }
+    ensures { λ r. ⌜ r ≡ tallyOf (total keyCount) (run (each (track textures palettes) (view 8 (λ bs. bs) count (drop datums (now (s .entry))))) (now (s .entry)) reach) ⌝ }
 {
     let mut far = reach;
+    let mut samples = 0u64;
     let mut i: usize = 0;
     while i < count {
         match read_track(s, datums + 8 * i, textures, palettes, far) {
-            Reach::Whole(m) => {
+            Tally::Whole(m, keys) => {
                 far = m;
+                samples += keys;
             }
-            Reach::Refused(n) => {
-                return Reach::Refused(n);
+            Tally::Refused(n) => {
+                return Tally::Refused(n);
             }
         }
         i += 1;
     }
-    Reach::Whole(far)
+    Tally::Whole(far, samples)
 }
 
 // The list of names whose count stands at c and whose offset at p.
@@ -183,14 +187,15 @@ pub fn read_pattern(s: &[u8]) -> PatternRead
         palettes.count,
         start,
     ) {
-        Reach::Whole(reach) => PatternRead::Whole(Pattern {
+        Tally::Whole(reach, samples) => PatternRead::Whole(Pattern {
             frames,
             textures,
             palettes,
             block,
             reach,
+            samples,
         }),
-        Reach::Refused(e) => PatternRead::Refused(e),
+        Tally::Refused(e) => PatternRead::Refused(e),
     }
 }
 

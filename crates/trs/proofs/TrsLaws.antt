@@ -4,7 +4,7 @@ use mathlib.Core.List.{List, map}
 use mathlib.Core.Path.{_≡_, refl, sym, ap, subst, _∙_}
 use native.Mathlib.Nat.{add-zero}
 use native.Mathlib.Omega.{arith}
-use lib.ListN.{length, take, drop, getD, length-map}
+use lib.ListN.{length, take, drop, getD}
 use Rattle.util.specs.Bits.{bits}
 use Rattle.util.specs.Fixed.{fix1-3-12, fixed}
 use Rattle.util.specs.View.{little, wordAt, view}
@@ -15,6 +15,7 @@ use Rattle.util.specs.ReaderCode.{reached}
 use Rattle.util.proofs.Each.{each-read}
 use Rattle.util.proofs.ReadsLaws.{not-both}
 use Rattle.util.proofs.ViewLaws.{map-at, view-length, view-there, word-part}
+use Rattle.animation.proofs.RotationLaws.{reference-count}
 use Rattle.matrix.specs.declared.Mat3.{Mat3}
 use Rattle.rotation.specs.Rotation.{pivotMat, basisMat}
 use Rattle.curve.specs.declared.SampleList.{SampleList}
@@ -52,7 +53,7 @@ module _ (s : List ℕ) (a : Known) (w : WholeAnimation s a) (o : ℕ) (h : o < 
   object-read = go (r .reach) (here .reads)
     where
       go : (x : Reach) → run (at s (wordAt 2 s (20 + 2 * o))) s 0 ≡ reached x (objectCurves (tablesAt s) s (r .curves)) → ObjectStands s o (r .curves)
-      go (Whole m) e = record { reach = m; reads = e; inside = here .holds }
+      go (Whole m) e = record { reach = m; reads = e; inside = here .holds .inside }
       go (Refused n) e = absurd (not-both (object-whole s a w o stillObject h .1) e)
 
 -- ---- rotations
@@ -70,12 +71,6 @@ module _ (t : Tables) (s : List ℕ) (l : SampleList) where
   abbrev matrices : List Mat3
   matrices = map (matrixFor t s) (references s l)
 
-  many : length (references s l) ≡ l .length
-  many = view-length 2 little (l .length) (drop (l .place) s)
-
-  pub matrix-count : length matrices ≡ l .length
-  matrix-count = length-map (references s l) (matrixFor t s) ∙ many
-
   -- reference k, as code reads it
   module _ (k : ℕ) (h : k < l .length) (x : ℕ) (e : x ≡ wordAt 2 s (l .place + 2 * k)) where
     read : x ≡ getD (references s l) k 0
@@ -85,4 +80,4 @@ module _ (t : Tables) (s : List ℕ) (l : SampleList) where
     reference-inside i = rw read (i .records k h)
 
     pub matrix-there : (r : Mat3) → r ≡ matrixFor t s x → (default : Mat3) → r ≡ getD matrices k default
-    matrix-there r q default = q ∙ ap (matrixFor t s) read ∙ sym (map-at (matrixFor t s) (references s l) k 0 default (rw many h))
+    matrix-there r q default = q ∙ ap (matrixFor t s) read ∙ sym (map-at (matrixFor t s) (references s l) k 0 default (rw (reference-count s l) h))

@@ -3,15 +3,16 @@ use Prim.Native.Nat.{ℕ, zero, suc, _+_, _*_, _/_, _%_, _^_, max, _≤_, _<_}
 use mathlib.Core.Bool.{Bool, true, false, cond}
 use mathlib.Core.List.{List, [], _∷_}
 use mathlib.Core.Path.{_≡_, refl, ap, subst}
-use native.Mathlib.Nat.{pow-suc}
+use native.Mathlib.Nat.{pow-suc, one-le-pow}
 use native.Mathlib.Omega.{arith}
 use lib.Dec.{lit<}
-use lib.ListN.{length, take, drop, getD, length-drop}
+use lib.ListN.{length, take, drop, getD, length-take, length-drop}
 use lib.Seq.{getD-drop}
 use Rattle.util.specs.View.{little, littleBytes, wordAt, view}
-use Rattle.util.specs.Reader.{Reader, done, refuse, part, accepted, run, bind, each}
+use Rattle.util.specs.Reader.{Reader, done, refuse, part, accepted, run, bind, each, word, list, unless}
 use Rattle.util.specs.Place.{within}
 use Rattle.util.proofs.Cut.{had-part}
+use Rattle.util.proofs.ViewLaws.{view-length}
 
 -- every number of a list is a byte
 abbrev pub Bytes : List ℕ → Type 0
@@ -26,18 +27,21 @@ bytes-take (suc n) [] h i = lit< tt
 bytes-take (suc n) (b ∷ s) h zero = h 0
 bytes-take (suc n) (b ∷ s) h (suc i) = bytes-take n s (λ j. h (suc j)) i
 
--- a word of n bytes is below 256 ^ n
-word-below : (n : ℕ) (s : List ℕ) → Bytes s → little (take n s) < 256 ^ n
+take-le : (n : ℕ) (s : List ℕ) → length (take n s) ≤ n
+take-le n s = simp length-take (omega arith)
+
+-- a word of at most n bytes is below 256 ^ n
+little-lt : (n : ℕ) (bs : List ℕ) → Bytes bs → length bs ≤ n → little bs < 256 ^ n
 unfolding little
-word-below zero s h = lit< tt
-word-below (suc n) [] h = rw pow-suc (let l = word-below n [] h in omega arith)
-word-below (suc n) (b ∷ s) h =
-    let l = word-below n s (λ j. h (suc j)) in
+little-lt n [] h l = one-le-pow n 256 (lit< tt)
+little-lt zero (b ∷ bs) h l = absurd (omega arith)
+little-lt (suc n) (b ∷ bs) h l =
+    let w = little-lt n bs (λ j. h (suc j)) (omega arith) in
     let k : b < 256 = h 0 in
     rw pow-suc (omega arith)
 
 pub word-lt : (n : ℕ) (s : List ℕ) (p : ℕ) → Bytes s → wordAt n s p < 256 ^ n
-word-lt n s p h = word-below n (drop p s) (bytes-drop p s h)
+word-lt n s p h = little-lt n (take n (drop p s)) (bytes-take n (drop p s) (bytes-drop p s h)) (take-le n (drop p s))
 
 -- the bytes of a word are the bytes that it was read from
 little-bytes : (n : ℕ) (s : List ℕ) → Bytes s → n ≤ length s → littleBytes n (little (take n s)) ≡ take n s
@@ -84,8 +88,8 @@ module _ {A : Type 0} where
   abbrev pub Many : (A → Type 0) → ℕ → List A → Type 0
   Many P n xs = (length xs ≡ n) × Each P xs
 
-  -- a list of n items, where P holds of what is read from bytes
-  pub view-many : (P : A → Type 0) (size : ℕ) (read : List ℕ → A) → ((bs : List ℕ) → Bytes bs → P (read bs))
+  -- n items, where P holds of what is read from bytes
+  view-many : (P : A → Type 0) (size : ℕ) (read : List ℕ → A) → ((bs : List ℕ) → Bytes bs → P (read bs))
       → (n : ℕ) (bs : List ℕ) → Bytes bs → Many P n (view size read n bs)
   unfolding view
   view-many P size read r zero bs h = (refl, tt)
@@ -93,11 +97,11 @@ module _ {A : Type 0} where
       let w = view-many P size read r n (drop size bs) (bytes-drop size bs h) in
       (ap suc (w .0), (r (take size bs) (bytes-take size bs h), w .1))
 
-  -- P of every value that a reader gives, whatever bytes its parts hold
+  -- P of every value that a reader gives, whatever bytes its parts hold: each at most its own number of them
   abbrev pub All : (A → Type 0) → Reader A → Type 0
   All P (done a) = P a
   All P (refuse n) = Unit {0}
-  All P (part p n rest) = (bs : List ℕ) → Bytes bs → All P (rest bs)
+  All P (part p n rest) = (bs : List ℕ) → Bytes bs → length bs ≤ n → All P (rest bs)
 
   pub all-run : (P : A → Type 0) (r : Reader A) → All P r → (s : List ℕ) → Bytes s → (m m' : ℕ) (a : A) → run r s m ≡ accepted m' a → P a
   unfolding run
@@ -106,12 +110,17 @@ module _ {A : Type 0} where
   all-run P (part p n rest) h s b m m' a e =
       let bs = take n (drop p s) in
       let w = had-part (p + n) (length s) (run (rest bs) s (max m (p + n))) m' a e in
-      all-run P (rest bs) (h bs (bytes-take n (drop p s) (bytes-drop p s b))) s b (max m (p + n)) m' a (w .1)
+      all-run P (rest bs) (h bs (bytes-take n (drop p s) (bytes-drop p s b)) (take-le n (drop p s))) s b (max m (p + n)) m' a (w .1)
 
   pub all-any : (r : Reader A) → All (λ _. Unit {0}) r
   all-any (done a) = tt
   all-any (refuse n) = tt
-  all-any (part p n rest) = λ bs y. all-any (rest bs)
+  all-any (part p n rest) = λ bs y l. all-any (rest bs)
+
+  pub all-map : (P Q : A → Type 0) → ((a : A) → P a → Q a) → (r : Reader A) → All P r → All Q r
+  all-map P Q f (done a) h = f a h
+  all-map P Q f (refuse n) h = tt
+  all-map P Q f (part p n rest) h = λ bs y l. all-map P Q f (rest bs) (h bs y l)
 
   pub all-cond : (P : A → Type 0) (b : Bool) (r q : Reader A) → All P r → All P q → All P (cond b r q)
   all-cond P true r q h l = h
@@ -122,7 +131,23 @@ module _ {A : Type 0} where
   unfolding within
   all-within P b (done a) h = h
   all-within P b (refuse n) h = tt
-  all-within P b (part p n rest) h = λ bs y. all-within P b (rest bs) (h bs y)
+  all-within P b (part p n rest) h = λ bs y l. all-within P b (rest bs) (h bs y l)
+
+pub list-all : {A : Type 0} (P : A → Type 0) (p size : ℕ) (read : List ℕ → A) → ((bs : List ℕ) → Bytes bs → P (read bs)) → (n : ℕ) → All (Many P n) (list p size read n)
+list-all P p size read r n = λ bs y _. view-many P size read r n bs y
+
+-- .. and where only its length matters
+pub length-all : {A : Type 0} (p size : ℕ) (read : List ℕ → A) (n : ℕ) → All (λ xs. length xs ≡ n) (list p size read n)
+length-all p size read n = λ bs _ _. view-length size read n bs
+
+pub word-all : (p n : ℕ) → All (λ x. x < 256 ^ n) (word p n)
+word-all p n = little-lt n
+
+-- what is accepted passed the test
+pub unless-all : (b : Bool) (n : ℕ) → All (λ _. b ≡ true) (unless b n)
+unfolding unless
+unless-all true n = refl
+unless-all false n = tt
 
 module _ {A B : Type 0} where
   -- one reader after the other
@@ -130,7 +155,7 @@ module _ {A B : Type 0} where
   unfolding bind
   all-bind P Q (done a) f h k = k a h
   all-bind P Q (refuse n) f h k = tt
-  all-bind P Q (part p n rest) f h k = λ bs y. all-bind P Q (rest bs) f (h bs y) k
+  all-bind P Q (part p n rest) f h k = λ bs y l. all-bind P Q (rest bs) f (h bs y l) k
 
   -- .. where nothing need be known of the first
   pub all-after : (Q : B → Type 0) (r : Reader A) (f : A → Reader B) → ((a : A) → All Q (f a)) → All Q (bind r f)

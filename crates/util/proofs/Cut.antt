@@ -49,7 +49,8 @@ module _ {A : Type 0} where
       go true t q = (leb-true e n t, q)
       go false t q = let z : _≡_ {A = ℕ} 0 1 = cc in absurd (omega arith)
 
-  had-refused : (e n : ℕ) (o : Outcome A) (c : ℕ) → ends e n o ≡ refused c → (c ≡ 2 → ⊥) → (e ≤ n) × (o ≡ refused c)
+  -- .. and so had what is refused other than as too short
+  pub had-refused : (e n : ℕ) (o : Outcome A) (c : ℕ) → ends e n o ≡ refused c → (c ≡ 2 → ⊥) → (e ≤ n) × (o ≡ refused c)
   unfolding ends
   had-refused e n o c q h = go (leb e n) refl q
     where

@@ -1,79 +1,119 @@
--- Following a list of readers one after the other, as a loop does. Assumes nothing.
+-- Following a list of readers one after the other, as a loop does, and counting what they give. Assumes nothing.
 use Prim.Native.Nat.{ℕ, zero, suc, _+_, _*_, _≤_, _<_}
 use mathlib.Core.List.{List, [], _∷_}
 use mathlib.Core.Path.{_≡_, refl, sym, ap, subst, _∙_}
+use native.Mathlib.Nat.{add-zero, zero-add, add-assoc}
 use native.Mathlib.Numerals.{add-one}
 use native.Mathlib.Omega.{arith}
 use lib.ListN.{length, take, drop, getD, drop-of-length-le}
 use lib.Seq.{drop-cons}
 use Rattle.util.specs.declared.cur.Reach.{Reach}
-use Rattle.util.specs.declared.cur.Reach.the-variants.{Whole, Refused}
+use Rattle.util.specs.declared.cur.Tally.{Tally}
+use Rattle.util.specs.declared.cur.Tally.the-variants.{Whole, Refused}
 use Rattle.util.specs.Reader.{Reader, done, Outcome, accepted, refused, run, bind, each}
-use Rattle.util.specs.ReaderCode.{reachOf}
+use Rattle.util.specs.ReaderCode.{reachOf, tallyOf}
+use Rattle.util.specs.Sums.{total}
 use Rattle.util.specs.View.{view}
 use Rattle.util.specs.Place.{raised}
 use Rattle.util.proofs.Place.{run-raised}
 use Rattle.util.proofs.Calls.{after, run-bind, accepted-first}
 use Rattle.util.proofs.ViewLaws.{view-length, view-there}
 
--- the reach of what follows an outcome
-abbrev pub onward : Reach → (ℕ → Reach) → Reach
-onward (Whole m) f = f m
+-- what follows an outcome, from its reach and its count
+abbrev onward : Tally → (ℕ → ℕ → Tally) → Tally
+onward (Whole m c) f = f m c
 onward (Refused n) f = Refused n
 
-module _ {A B : Type 0} where
-  -- an answer that changes the value alone keeps the reach
-  reach-after : (o : Outcome A) (f : A → B) → reachOf (after o (λ j a. accepted j (f a))) ≡ reachOf o
-  unfolding after
-  reach-after (accepted m a) f = refl
-  reach-after (refused n) f = refl
+tally-onward : {A B : Type 0} (g : A → ℕ) (h : B → ℕ) (o : Outcome A) (f : ℕ → A → Outcome B) (k : ℕ → ℕ → Tally) → ((j : ℕ) (a : A) → tallyOf h (f j a) ≡ k j (g a))
+    → tallyOf h (after o f) ≡ onward (tallyOf g o) k
+unfolding after
+tally-onward g h (accepted m a) f k e = e m a
+tally-onward g h (refused n) f k e = refl
 
-  reach-onward : (o : Outcome A) (f : ℕ → A → Outcome B) (g : ℕ → Reach) → ((j : ℕ) (a : A) → reachOf (f j a) ≡ g j) → reachOf (after o f) ≡ onward (reachOf o) g
-  unfolding after
-  reach-onward (accepted m a) f g h = h m a
-  reach-onward (refused n) f g h = refl
+-- a count that starts from 0
+pub from-none : {B : Type 0} (g : B → ℕ) (o : Outcome (List B)) → tallyOf (λ ys. 0 + total g ys) o ≡ tallyOf (total g) o
+from-none g (accepted m ys) = ap (Whole m) (zero-add (total g ys))
+from-none g (refused n) = refl
 
-  -- where what follows does not look at the value
-  pub reach-bind : (r : Reader A) (f : A → Reader B) (g : ℕ → Reach) (s : List ℕ) (m : ℕ) → ((j : ℕ) (a : A) → reachOf (run (f a) s j) ≡ g j) → reachOf (run (bind r f) s m) ≡ onward (reachOf (run r s m)) g
-  reach-bind r f g s m h = ap reachOf (run-bind r f s m) ∙ reach-onward (run r s m) (λ j a. run (f a) s j) g h
+module _ {A B : Type 0} (g : B → ℕ) (f : A → Reader B) (s : List ℕ) where
+  -- what a list of readers comes to, after parts that reach as far as m and a count of c
+  abbrev left : List A → ℕ → ℕ → Tally
+  left xs m c = tallyOf (λ ys. c + total g ys) (run (each f xs) s m)
 
-module _ {A B : Type 0} (f : A → Reader B) (s : List ℕ) where
-  each-cons : (x : A) (xs : List A) (m : ℕ) → reachOf (run (each f (x ∷ xs)) s m) ≡ onward (reachOf (run (f x) s m)) (λ j. reachOf (run (each f xs) s j))
+  one-first : (y : B) (c : ℕ) (o : Outcome (List B)) → tallyOf (λ zs. c + total g zs) (after o (λ j ys. accepted j (y ∷ ys))) ≡ tallyOf (λ ys. c + g y + total g ys) o
+  unfolding after total
+  one-first y c (accepted m ys) = ap (Whole m) (sym (add-assoc c (g y) (total g ys)))
+  one-first y c (refused n) = refl
+
+  each-cons : (x : A) (xs : List A) (m c : ℕ) → left (x ∷ xs) m c ≡ onward (tallyOf g (run (f x) s m)) (λ j d. left xs j (c + d))
   unfolding each run
-  each-cons x xs m = reach-bind (f x) _ (λ j. reachOf (run (each f xs) s j)) s m (λ j y. ap reachOf (run-bind (each f xs) (λ ys. done (y ∷ ys)) s j) ∙ reach-after (run (each f xs) s j) (λ ys. y ∷ ys))
+  each-cons x xs m c =
+      ap (tallyOf (λ zs. c + total g zs)) (run-bind (f x) _ s m)
+      ∙ tally-onward g (λ zs. c + total g zs) (run (f x) s m) _ (λ j d. left xs j (c + d))
+      (λ j y. ap (tallyOf (λ zs. c + total g zs)) (run-bind (each f xs) (λ ys. done (y ∷ ys)) s j) ∙ one-first y c (run (each f xs) s j))
 
   module _ (xs : List A) (d : A) where
-    -- what is left of the list from index i on, after parts that reach as far as m
-    abbrev pub rest : ℕ → ℕ → Reach
-    rest i m = reachOf (run (each f (drop i xs)) s m)
+    -- what is left of the list from index i on
+    abbrev pub rest : ℕ → ℕ → ℕ → Tally
+    rest i m c = left (drop i xs) m c
 
-    unroll : (i m : ℕ) → i < length xs → rest i m ≡ onward (reachOf (run (f (getD xs i d)) s m)) (λ j. rest (i + 1) j)
-    unroll i m h = rw (drop-cons xs i d h, add-one i) (each-cons (getD xs i d) (drop (suc i) xs) m)
+    unroll : (i m c : ℕ) → i < length xs → rest i m c ≡ onward (tallyOf g (run (f (getD xs i d)) s m)) (λ j e. rest (i + 1) j (c + e))
+    unroll i m c h = rw (drop-cons xs i d h, add-one i) (each-cons (getD xs i d) (drop (suc i) xs) m c)
 
     -- item i is whole: go on
-    pub next : (i m j : ℕ) → i < length xs → reachOf (run (f (getD xs i d)) s m) ≡ Whole j → rest i m ≡ rest (i + 1) j
-    next i m j h e = unroll i m h ∙ ap (λ (o : Reach). onward o (λ j. rest (i + 1) j)) e
+    pub next : (i m c j e : ℕ) → i < length xs → tallyOf g (run (f (getD xs i d)) s m) ≡ Whole j e → rest i m c ≡ rest (i + 1) j (c + e)
+    next i m c j e h q = unroll i m c h ∙ ap (λ (o : Tally). onward o (λ j e. rest (i + 1) j (c + e))) q
 
     -- item i is refused, and so is the list
-    pub ended : (i m n : ℕ) → i < length xs → reachOf (run (f (getD xs i d)) s m) ≡ Refused n → rest i m ≡ Refused n
-    ended i m n h e = unroll i m h ∙ ap (λ (o : Reach). onward o (λ j. rest (i + 1) j)) e
+    pub ended : (i m c n : ℕ) → i < length xs → tallyOf g (run (f (getD xs i d)) s m) ≡ Refused n → rest i m c ≡ Refused n
+    ended i m c n h q = unroll i m c h ∙ ap (λ (o : Tally). onward o (λ j e. rest (i + 1) j (c + e))) q
 
     -- nothing is left
-    pub all : (i m : ℕ) → length xs ≤ i → rest i m ≡ Whole m
-    unfolding each run
-    all i m h = rw (drop-of-length-le xs h) refl
+    pub all : (i m c : ℕ) → length xs ≤ i → rest i m c ≡ Whole m c
+    unfolding each run total
+    all i m c h = rw (drop-of-length-le xs h, add-zero c) refl
 
--- ---- from the reach back to the value
+-- ---- where nothing is counted
+
+-- a reach is a tally whose count is 0
+abbrev tallied : Reach → Tally
+tallied (Reach.Whole m) = Whole m 0
+tallied (Reach.Refused n) = Refused n
+
+abbrev forget : Tally → Reach
+forget (Whole m c) = Reach.Whole m
+forget (Refused n) = Reach.Refused n
+
+module _ {A : Type 0} where
+  tallied-of : (o : Outcome A) (r : Reach) → r ≡ reachOf o → tallied r ≡ tallyOf (λ _. 0) o
+  tallied-of (accepted m a) r e = ap tallied e
+  tallied-of (refused n) r e = ap tallied e
+
+  forget-tally : (g : A → ℕ) (o : Outcome A) → forget (tallyOf g o) ≡ reachOf o
+  forget-tally g (accepted m a) = refl
+  forget-tally g (refused n) = refl
+
+-- ---- from what code answers back to the value
 
 module _ {A : Type 0} where
   -- an outcome that is whole has a value
-  pub whole-of : (o : Outcome A) (m : ℕ) → reachOf o ≡ Whole m → (a : A) × (o ≡ accepted m a)
+  pub whole-of : (o : Outcome A) (m : ℕ) → reachOf o ≡ Reach.Whole m → (a : A) × (o ≡ accepted m a)
   whole-of (accepted k a) m e = (a, cc)
   whole-of (refused n) m e = let z : _≡_ {A = ℕ} 0 1 = cc in absurd (omega arith)
 
-  pub refused-of : (o : Outcome A) (n : ℕ) → reachOf o ≡ Refused n → o ≡ refused n
+  pub refused-of : (o : Outcome A) (n : ℕ) → reachOf o ≡ Reach.Refused n → o ≡ refused n
   refused-of (accepted k a) n e = let z : _≡_ {A = ℕ} 0 1 = cc in absurd (omega arith)
   refused-of (refused k) n e = cc
+
+  module _ (g : A → ℕ) where
+    -- .. and so has one that is counted
+    pub counted-of : (o : Outcome A) (m c : ℕ) → tallyOf g o ≡ Whole m c → (a : A) × (o ≡ accepted m a) × (g a ≡ c)
+    counted-of (accepted k a) m c e = (a, cc, cc)
+    counted-of (refused n) m c e = let z : _≡_ {A = ℕ} 0 1 = cc in absurd (omega arith)
+
+    pub uncounted-of : (o : Outcome A) (n : ℕ) → tallyOf g o ≡ Refused n → o ≡ refused n
+    uncounted-of (accepted k a) n e = let z : _≡_ {A = ℕ} 0 1 = cc in absurd (omega arith)
+    uncounted-of (refused k) n e = cc
 
   -- the value does not hang on what was read before
   pub from-zero : (r : Reader A) (s : List ℕ) (m m' : ℕ) (a : A) → run r s m ≡ accepted m' a → (k : ℕ) × (run r s 0 ≡ accepted k a)
@@ -112,24 +152,46 @@ module _ {A B : Type 0} (f : A → Reader B) (s : List ℕ) (size : ℕ) (read :
   item-count : length items ≡ count
   item-count = view-length size read count (drop at s)
 
-  -- what is left from item i on, after parts that reach as far as m
-  abbrev pub items-left : ℕ → ℕ → Reach
-  items-left i m = rest f s items d i m
+  module _ (g : B → ℕ) where
+    -- what is left from item i on, after parts that reach as far as m and a count of c
+    abbrev pub items-left : ℕ → ℕ → ℕ → Tally
+    items-left i m c = rest g f s items d i m c
 
-  pub items-end : (i m : ℕ) → count ≤ i → Whole m ≡ items-left i m
-  items-end i m h = sym (all f s items d i m (rw item-count h))
+    -- from the first on, with nothing counted yet, that is all of them
+    pub items-all : (m : ℕ) → items-left 0 m 0 ≡ tallyOf (total g) (run (each f items) s m)
+    items-all m = from-none g (run (each f items) s m)
 
-  -- x is item i, and r what code answers of its reader
+    pub items-end : (i m c : ℕ) → count ≤ i → Whole m c ≡ items-left i m c
+    items-end i m c h = sym (all g f s items d i m c (rw item-count h))
+
+    -- x is item i, and r what code answers of its reader
+    module _ (i m c : ℕ) (h : i < count) (x : A) (e : x ≡ read (take size (drop (at + size * i) s))) (r : Tally) (q : r ≡ tallyOf g (run (f x) s m)) where
+      item-tally : tallyOf g (run (f (getD items i d)) s m) ≡ r
+      item-tally = rw (view-there size read count i at s d h, ← e) (sym q)
+
+      -- it is whole: go on; or it is refused, and so are the items
+      pub item-whole : (j k : ℕ) → r ≡ Whole j k → items-left (i + 1) j (c + k) ≡ items-left i m c
+      item-whole j k w = sym (next g f s items d i m c j k (rw item-count h) (item-tally ∙ w))
+
+      pub item-refused : (n : ℕ) → r ≡ Refused n → Refused n ≡ items-left i m c
+      item-refused n w = sym (ended g f s items d i m c n (rw item-count h) (item-tally ∙ w))
+
+  -- what is left where only the reach is told
+  abbrev pub reach-left : ℕ → ℕ → Reach
+  reach-left i m = reachOf (run (each f (drop i items)) s m)
+
+  reach-is : (i m : ℕ) → forget (items-left (λ _. 0) i m 0) ≡ reach-left i m
+  reach-is i m = forget-tally _ (run (each f (drop i items)) s m)
+
+  pub reach-end : (i m : ℕ) → count ≤ i → Reach.Whole m ≡ reach-left i m
+  reach-end i m h = ap forget (items-end (λ _. 0) i m 0 h) ∙ reach-is i m
+
   module _ (i m : ℕ) (h : i < count) (x : A) (e : x ≡ read (take size (drop (at + size * i) s))) (r : Reach) (q : r ≡ reachOf (run (f x) s m)) where
-    item-reach : reachOf (run (f (getD items i d)) s m) ≡ r
-    item-reach = rw (view-there size read count i at s d h, ← e) (sym q)
+    pub reach-whole : (j : ℕ) → r ≡ Reach.Whole j → reach-left (i + 1) j ≡ reach-left i m
+    reach-whole j w = sym (reach-is (i + 1) j) ∙ (ap forget (item-whole (λ _. 0) i m 0 h x e (tallied r) (tallied-of (run (f x) s m) r q) j 0 (ap tallied w)) ∙ reach-is i m)
 
-    -- it is whole: go on; or it is refused, and so are the items
-    pub item-whole : (j : ℕ) → r ≡ Whole j → items-left (i + 1) j ≡ items-left i m
-    item-whole j w = sym (next f s items d i m j (rw item-count h) (item-reach ∙ w))
-
-    pub item-refused : (n : ℕ) → r ≡ Refused n → Refused n ≡ items-left i m
-    item-refused n w = sym (ended f s items d i m n (rw item-count h) (item-reach ∙ w))
+    pub reach-refused : (n : ℕ) → r ≡ Reach.Refused n → Reach.Refused n ≡ reach-left i m
+    reach-refused n w = ap forget (item-refused (λ _. 0) i m 0 h x e (tallied r) (tallied-of (run (f x) s m) r q) n (ap tallied w)) ∙ reach-is i m
 
   -- items that are accepted have each been read
   pub items-read : (m : ℕ) (ys : List B) → run (each f items) s 0 ≡ accepted m ys

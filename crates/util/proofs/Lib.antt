@@ -8,6 +8,8 @@ pub mod FixedLaws
 pub mod WithinLaws
 pub mod ViewLaws
 pub mod All
+pub mod NumberLaws
+pub mod SumsLaws
 pub mod WritesLaws
 pub mod ReadsLaws
 pub mod BelowLaws

@@ -86,6 +86,12 @@ module _ {A : Type 0} where
       let c : length (drop b s) < p + n = simp length-drop (omega arith) in
       short _ _ _ a ∙ sym (ap (moved b) (short _ _ _ c))
 
+  -- neither changes the value
+  pub lowered : (m b : ℕ) (o : Outcome A) (j : ℕ) (a : A) → raised m (moved b o) ≡ accepted j a → (k : ℕ) × (o ≡ accepted k a)
+  unfolding raised moved
+  lowered m b (accepted k c) j a e = let q : c ≡ a = cc in (k, ap (λ (x : A). accepted k x) q)
+  lowered m b (refused n) j a e = let z : _≡_ {A = ℕ} 0 1 = cc in absurd (omega arith)
+
   -- an entry's reader, which begins with a part, is that reader on what follows the entry's offset: the reach is moved by the offset,
   -- and raised to what was read before. An offset past the section leaves it no byte.
   pub run-within : (b p n : ℕ) (k : List ℕ → Reader A) (s : List ℕ) (m : ℕ) → 0 < p + n

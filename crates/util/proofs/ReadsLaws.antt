@@ -1,12 +1,10 @@
 -- From one reader's answer to another's. Assumes nothing.
 use Prim.Native.Nat.{ℕ}
 use mathlib.Core.List.{List}
-use mathlib.Core.Path.{_≡_, refl, subst, _∙_}
+use mathlib.Core.Path.{_≡_, subst, _∙_}
 use native.Mathlib.Omega.{arith}
-use Rattle.util.specs.declared.cur.Reach.{Reach}
-use Rattle.util.specs.declared.cur.Reach.the-variants.{Whole, Refused}
-use Rattle.util.specs.Reader.{Reader, Outcome, accepted, refused, run, bind}
-use Rattle.util.specs.ReaderCode.{reachOf, reached, Reads}
+use Rattle.util.specs.Reader.{Reader, done, Outcome, accepted, refused, run, bind}
+use Rattle.util.specs.ReaderCode.{Reads}
 use Rattle.util.proofs.Calls.{after, run-bind-as}
 
 module _ {A X : Type 0} {means : X → Outcome A} {Holds : X → Type 0} {s : List ℕ} where
@@ -29,10 +27,10 @@ module _ {A B : Type 0} (r : Reader A) (f : A → Reader B) (s : List ℕ) (m : 
   unfolding after
   stops n e = run-bind-as r f s m (refused n) e
 
--- how far an outcome reaches that is told by its reach
-pub reach-reached : {A : Type 0} (r : Reach) (a : A) → r ≡ reachOf (reached r a)
-reach-reached (Whole m) a = refl
-reach-reached (Refused n) a = refl
+-- what is accepted where nothing more is read
+pub done-is : {A : Type 0} (a : A) (s : List ℕ) (m j : ℕ) (b : A) → run (done a) s m ≡ accepted j b → a ≡ b
+unfolding run
+done-is a s m j b e = cc
 
 module _ {A : Type 0} {o : Outcome A} where
   -- an outcome has one value, and is not refused too

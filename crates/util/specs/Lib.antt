@@ -6,3 +6,4 @@ pub mod Bits
 pub mod Fixed
 pub mod FixedCode
 pub mod Within
+pub mod Sums

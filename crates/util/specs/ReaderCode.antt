@@ -4,6 +4,7 @@ use mathlib.Core.List.{List}
 use mathlib.Core.Path.{_≡_}
 use Rattle.util.specs.declared.cur.Reach.{Reach}
 use Rattle.util.specs.declared.cur.Reach.the-variants.{Whole, Refused}
+use Rattle.util.specs.declared.cur.Tally.{Tally}
 use Rattle.util.specs.Reader.{Reader, Outcome, accepted, refused, run}
 
 -- what code answers that only follows a reader's parts
@@ -15,6 +16,11 @@ reachOf (refused n) = Refused n
 abbrev pub reached : {A : Type 0} → Reach → A → Outcome A
 reached (Whole m) a = accepted m a
 reached (Refused n) a = refused n
+
+-- what code answers that also counts what it follows
+abbrev pub tallyOf : {A : Type 0} → (A → ℕ) → Outcome A → Tally
+tallyOf count (accepted m a) = Tally.Whole m (count a)
+tallyOf count (refused n) = Tally.Refused n
 
 -- x is the code's answer for the reader r on the bytes s, after parts that reach as far as `reach`: `means` says which outcome each case of
 -- the answer stands for, and `Holds` what is known of it besides.

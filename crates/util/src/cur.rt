@@ -14,6 +14,12 @@ pub enum Reach {
     Refused(u8),
 }
 
+// How far some items reach, and how many values their lists have; or the refusal's number.
+pub enum Tally {
+    Whole(usize, u64),
+    Refused(u8),
+}
+
 // The greater of two positions.
 pub fn greater(a: usize, b: usize) -> usize
     ensures { λ r. ⌜ r ≡ max a b ⌝ }

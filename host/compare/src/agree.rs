@@ -67,6 +67,7 @@ pub fn section(s: &[u8], rng: &mut Rng, counts: &mut Counts) -> Agreed {
             agree!(motion::find(s, &[0; 16]), Err(Refusal(n)), "finding in a refused section");
             agree!(motion::check(s, 0), Err(Refusal(n)), "the check in a refused section");
             agree!(motion::number(s, 7), n, "the number of a check in a refused section");
+            agree!(motion::list(s), format!("answer={n}\n"), "the listing of a refused section");
             counts.refused[n as usize] += 1;
             return Ok(());
         }
@@ -74,6 +75,7 @@ pub fn section(s: &[u8], rng: &mut Rng, counts: &mut Counts) -> Agreed {
     };
     agree!(read.iter().filter(|e| e.value.is_ok()).count(), oracle::kept(s), "the entries that the Rust keeps");
     finding(s, &read)?;
+    totals(s, &read)?;
     agree!(motion::check(s, read.len()), Err(Refusal(9)), "the entry after the last");
     agree!(motion::check(s, usize::MAX), Err(Refusal(9)), "the last index there is");
     for (i, e) in read.into_iter().enumerate() {
@@ -92,6 +94,17 @@ fn finding(s: &[u8], read: &[Entry]) -> Agreed {
     let other = *b"no entry's name!";
     let there = read.iter().any(|e| e.name == other);
     agree!(motion::find(s, &other).map(|i| i.is_some()), Ok(there), "finding a name that is not there");
+    Ok(())
+}
+
+/// The totals under the listing, by what the Rust has read.
+fn totals(s: &[u8], read: &[Entry]) -> Agreed {
+    let whole: Vec<_> = read.iter().filter(|e| !oracle::too_many_objects(s, e.offset)).filter_map(|e| e.value.as_ref().ok()).collect();
+    let samples: usize = whole.iter().map(|v| oracle::samples(v)).sum();
+    let expected = format!("accepted={}\nrefused={}\nsamples={samples}\n", whole.len(), read.len() - whole.len());
+    let listing = motion::list(s);
+    let lines: Vec<_> = listing.split_inclusive('\n').collect();
+    agree!(lines[lines.len() - 3..].concat(), expected, "the totals under the listing");
     Ok(())
 }
 

@@ -62,6 +62,22 @@ pub fn read(s: &[u8]) -> std::result::Result<Vec<Entry>, u32> {
     Ok(entries)
 }
 
+/// How many values the lists of an entry have, a pattern's keys among them.
+pub fn samples(value: &Value) -> usize {
+    fn values<T>(c: &Curve<T>) -> usize {
+        match c {
+            Curve::Samples { values, .. } => values.len(),
+            _ => 0,
+        }
+    }
+    let object = |o: &TRSCurves| o.trans.iter().chain(&o.scale).map(values).sum::<usize>() + values(&o.rotation);
+    match value {
+        Value::Jnt(a) => a.objects_curves.iter().map(object).sum(),
+        Value::Srt(a) => a.tracks.iter().flat_map(|t| &t.channels).map(|c| values(&c.curve)).sum(),
+        Value::Pat(a) => a.material_tracks.iter().map(|t| t.keyframes.len()).sum(),
+    }
+}
+
 /// How many entries the Rust keeps of a section that stands in a container.
 pub fn kept(s: &[u8]) -> usize {
     let mut file = b"BCA0\xff\xfe\0\0\xff\0\0\0\x10\0\x01\0\x14\0\0\0".to_vec();

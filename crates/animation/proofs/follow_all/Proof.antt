@@ -4,16 +4,15 @@ use mathlib.Core.Path.{_∙_}
 use Prim.Native.Nat.{_-_, _≤_}
 use mathlib.Core.Path.{_≡_, refl}
 use native.Mathlib.Omega.{arith}
-use lib.ListN.{drop}
-use Rattle.util.specs.View.{little, view}
-use Rattle.util.proofs.Each.{rest, items-end, item-whole, item-refused}
+use Rattle.util.specs.View.{little}
+use Rattle.util.proofs.Each.{reach-left, reach-end, reach-whole, reach-refused}
 use Rattle.animation.specs.Animation.{reference}
 use Rattle.animation.proofs.follow_all.Statement.{statement}
 use Rattle.animation.proofs.follow_all.Tie as tie
 
 abbrev Inv-loop : tie.InvT-loop
 Inv-loop s t list n reach far₀ i₀ far i =
-    (i ≤ n) × (rest (reference (t .pivot) (t .basis)) s (view 2 little n (drop list s)) 0 i far ≡ rest (reference (t .pivot) (t .basis)) s (view 2 little n (drop list s)) 0 0 reach)
+    (i ≤ n) × (reach-left (reference (t .pivot) (t .basis)) s 2 little list n 0 i far ≡ reach-left (reference (t .pivot) (t .basis)) s 2 little list n 0 0 reach)
 
 abbrev μ-loop : tie.MeasureT-loop
 μ-loop s t list n reach far₀ i₀ far i = n - i
@@ -35,7 +34,7 @@ returns c =
     let l = c .before .before .before .before .before .before in
     let a = l .before .before .args in
     let f = c .before .before .before in
-    item-refused (reference (a .t .pivot) (a .t .basis)) (a .s .now) 2 little (a .list) (a .n) 0 (l .loop .i) (l .loop .far) (omega arith) _ (f .before .word16 .ensures) _ (f .follow .ensures) _ (c .before .c .given .1) ∙ l .loop .inv .1
+    reach-refused (reference (a .t .pivot) (a .t .basis)) (a .s .now) 2 little (a .list) (a .n) 0 (l .loop .i) (l .loop .far) (omega arith) _ (f .before .word16 .ensures) _ (f .follow .ensures) _ (c .before .c .given .1) ∙ l .loop .inv .1
 
 add-i : tie.Need-add-i Inv-loop μ-loop
 add-i c = omega arith
@@ -48,13 +47,13 @@ loop-again c =
     let l = c .before .before .before .before .before .before in
     let a = l .before .before .args in
     let f = c .before .before .before in
-    (omega arith, item-whole (reference (a .t .pivot) (a .t .basis)) (a .s .now) 2 little (a .list) (a .n) 0 (l .loop .i) (l .loop .far) (omega arith) _ (f .before .word16 .ensures) _ (f .follow .ensures) _ (c .before .m .given .1) ∙ l .loop .inv .1)
+    (omega arith, reach-whole (reference (a .t .pivot) (a .t .basis)) (a .s .now) 2 little (a .list) (a .n) 0 (l .loop .i) (l .loop .far) (omega arith) _ (f .before .word16 .ensures) _ (f .follow .ensures) _ (c .before .m .given .1) ∙ l .loop .inv .1)
 
 returns-2 : tie.Need-returns-2 Inv-loop μ-loop
 returns-2 c =
     let l = c .before .loop in
     let a = c .before .before .before .args in
-    items-end (reference (a .t .pivot) (a .t .basis)) (a .s .now) 2 little (a .list) (a .n) 0 (l .i) (l .far) (omega arith) ∙ l .inv .1
+    reach-end (reference (a .t .pivot) (a .t .basis)) (a .s .now) 2 little (a .list) (a .n) 0 (l .i) (l .far) (omega arith) ∙ l .inv .1
 
 pub follow-all-spec : {M : Type 1} → statement M
 follow-all-spec =

@@ -37,15 +37,20 @@ returns-3 c =
 returns-4 : tie.Need-returns-4
 unfolding animated run
 returns-4 c =
-    let i = c .before in
+    let i = c .before .before in
     let j = i .before .before .before .before in
     let k = j .before .before .before .before in
+    let a = k .before .before .before .before .args in
     let x = known (k .trans .given .1) (k .before .before .read-animated-axes .ensures) in
     let y = known (j .rotation .given .1) (j .before .before .read-animated-rotation .ensures) in
     let z = known (i .scale .given .1) (i .before .before .read-animated-axes2 .ensures) in
     record {
       reads = goes-on _ _ _ _ _ _ (x .reads) ∙ (goes-on _ _ _ _ _ _ (y .reads) ∙ goes-on _ _ _ _ _ _ (z .reads));
-      holds = record { trans = x .holds .0; rotation = y .holds .0; scale = z .holds .0 };
+      holds =
+          record {
+            inside = record { trans = x .holds .0; rotation = y .holds .0; scale = z .holds .0 };
+            samples = cc (x .holds .2, c .rotation-samples .ensures (a .t) (a .s .now), z .holds .2);
+          };
     }
 
 pub read-animated-spec : {M : Type 1} → statement M
@@ -63,6 +68,12 @@ read-animated-spec =
     read-animated-axes-requires-2
     (λ c. search needs)
     (λ c κs. search needs)
+    (λ c. search needs)
+    (λ c. search needs)
+    (λ c κs. search needs)
+    (λ c. search needs)
+    (λ c. search needs)
+    (λ c. search needs)
     (λ c. search needs)
     returns
     returns-2

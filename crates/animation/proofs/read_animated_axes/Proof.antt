@@ -1,7 +1,7 @@
 -- `animation::read_animated_axes` meets its contract. Assumes nothing.
 use Prim.Native.Nat.{ℕ, _+_}
 use mathlib.Core.Bool.{Bool, cond}
-use mathlib.Core.Path.{sym, ap, subst, _∙_}
+use mathlib.Core.Path.{refl, sym, ap, subst, _∙_}
 use native.Mathlib.Omega.{arith}
 use lib.Dec.{eqb}
 use Rattle.util.specs.Bits.{bits}
@@ -31,7 +31,7 @@ returns-2 c =
     let a = k .before .before .before .args in
     let e = sym (c .before .if1 .left) ∙ (k .is-clear .ensures ∙ ap (λ (n : ℕ). eqb (bits (a .flags) n (n + 2)) 0) (k .before .left-out-bit .ensures .0)) in
     let f = ap (λ (b : Bool). run (cond b (axes (tripleMeans (a .which)) (a .flags) (a .at .pos)) (done (noAxes, a .at .pos))) (a .s .now) (a .at .reach)) (sym e) in
-    subst (λ (x : AxisCurves). AxesReads (animatedAxes (tripleMeans (a .which)) (a .flags) (a .at .pos)) (a .s .now) (a .at .reach) (a .at .pos + 24) (AxesRead.Whole x (a .at))) (sym (c .no-axes .ensures)) (record { reads = f; holds = (record { x = tt; y = tt; z = tt }, omega arith) })
+    subst (λ (x : AxisCurves). AxesReads (animatedAxes (tripleMeans (a .which)) (a .flags) (a .at .pos)) (a .s .now) (a .at .reach) (a .at .pos + 24) (AxesRead.Whole x (a .at) 0)) (sym (c .no-axes .ensures)) (record { reads = f; holds = (record { x = tt; y = tt; z = tt }, omega arith, refl) })
 
 pub read-animated-axes-spec : {M : Type 1} → statement M
 read-animated-axes-spec =

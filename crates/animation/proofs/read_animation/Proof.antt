@@ -47,7 +47,7 @@ returns-7 c =
     let t = o .before .before in
     let l = t .before .before in
     let a = l .before .before .before .before .before .args in
-    objects-whole (a .s .now) _ (l .before .word162 .ensures) (l .if2 .left) _ (t .before .starts-with .ensures) (not-false _ (t .if3 .left)) _ (l .before .before .word16 .ensures) (o .before .if4 .left) (o .if5 .left) _ (f .before .read-tables .ensures) _ (f .follow-objects .ensures) _ (c .before .reach .given .1)
+    objects-whole (a .s .now) _ (l .before .word162 .ensures) (l .if2 .left) _ (t .before .starts-with .ensures) (not-false _ (t .if3 .left)) _ (l .before .before .word16 .ensures) (o .before .if4 .left) (o .if5 .left) _ (f .before .read-tables .ensures) _ (f .follow-objects .ensures) _ _ (c .before .reach .given .1)
 
 pub read-animation-spec : {M : Type 1} → statement M
 read-animation-spec =

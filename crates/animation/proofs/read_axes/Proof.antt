@@ -36,7 +36,7 @@ returns-3 c =
 returns-4 : tie.Need-returns-4
 unfolding axes run
 returns-4 c =
-    let i = c .before in
+    let i = c .before .before in
     let j = i .before .before .before .before in
     let k = j .before .before .before .before in
     let x = known (k .x .given .1) (k .before .before .read-axis .ensures) in
@@ -44,7 +44,7 @@ returns-4 c =
     let z = known (i .z .given .1) (i .before .before .read-axis3 .ensures) in
     record {
       reads = goes-on _ _ _ _ _ _ (x .reads) ∙ (goes-on _ _ _ _ _ _ (y .reads) ∙ goes-on _ _ _ _ _ _ (z .reads));
-      holds = (record { x = x .holds .0; y = y .holds .0; z = z .holds .0 }, let p = x .holds .1 in let q = y .holds .1 in let r = z .holds .1 in omega arith);
+      holds = (record { x = x .holds .0; y = y .holds .0; z = z .holds .0 }, let p = x .holds .1 in let q = y .holds .1 in let r = z .holds .1 in omega arith, c .axes-samples .ensures _);
     }
 
 pub read-axes-spec : {M : Type 1} → statement M
@@ -60,6 +60,7 @@ read-axes-spec =
     read-axis-requires-3
     (λ c. search needs)
     (λ c. search needs)
+    (λ c κs. search needs)
     returns
     returns-2
     returns-3

@@ -6,7 +6,7 @@ use Rattle.util.specs.declared.cur.Reach.the-variants.{Whole}
 use Rattle.animation.specs.declared.TRSCurves.{TRSCurves}
 use Rattle.animation.specs.Animation.{object}
 use Rattle.animation.specs.AnimationCode.{ObjectReads}
-use Rattle.animation.proofs.ObjectLaws.{object-short, by-flags, still-inside, object-refused}
+use Rattle.animation.proofs.ObjectLaws.{object-short, by-flags, still-counted, object-refused}
 use borrow.Author.Needs.{needs}
 use Rattle.animation.proofs.read_object.Statement.{statement}
 use Rattle.animation.proofs.read_object.Tie as tie
@@ -20,10 +20,10 @@ returns-2 c =
     let b = c .before .before in
     let l = b .before .before .before in
     let a = l .before .before .args in
-    subst (λ (x : TRSCurves). ObjectReads (object (a .t .pivot) (a .t .basis) (a .p)) (a .t) (a .s .now) (a .reach) (record { reach = Whole (b .before .greater .result); curves = x })) (sym (c .still-curves .ensures))
+    subst (λ (x : TRSCurves). ObjectReads (object (a .t .pivot) (a .t .basis) (a .p)) (a .t) (a .s .now) (a .reach) (record { reach = Whole (b .before .greater .result); samples = 0; curves = x })) (sym (c .still-curves .ensures))
     (record {
       reads = by-flags (a .t .pivot) (a .t .basis) (a .p) (a .reach) (a .s .now) (l .if1 .left) _ (b .before .before .word16 .ensures) _ (b .before .greater .ensures) _ (sym (c .before .if2 .taken) ∙ b .bit16 .ensures);
-      holds = still-inside (a .t) (a .s .now);
+      holds = still-counted (a .t) (a .s .now);
     })
 
 returns-3 : tie.Need-returns-3

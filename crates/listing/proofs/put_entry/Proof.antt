@@ -9,10 +9,11 @@ use Rattle.listing.proofs.put_entry.Tie as tie
 
 returns : tie.Need-returns
 returns c =
-    let w2 = c .before .before .before in
+    let w2 = c .before .before in
     let w1 = w2 .before .before .before in
-    let a = w1 .before .before .before .before .args in
-    same (one-entry (kindMeans (a .kind)) (a .s .now) (a .i) _ _ (c .before .check .ensures)) (omega arith) (both (both (w1 .put-decimal-line .ensures) (w2 .put-hex-line .ensures)) (c .put-check .ensures))
+    let z = w1 .before .before .before .before in
+    let a = z .args in
+    same (one-entry (kindMeans (a .kind)) (a .s .now) (a .i) _ _ (z .pre .2)) (omega arith) (both (both (w1 .put-decimal-line .ensures) (w2 .put-hex-line .ensures)) (c .put-check .ensures))
 
 pub put-entry-spec : {M : Type 1} → statement M
 put-entry-spec =
@@ -21,7 +22,6 @@ put-entry-spec =
     (λ c. search needs)
     (λ c κs. search needs)
     (λ c. search needs)
-    (λ c κs. search needs)
     (λ c κs. search needs)
     (λ c κs. search needs)
     returns)

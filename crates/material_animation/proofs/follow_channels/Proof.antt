@@ -8,17 +8,21 @@ use Rattle.material_animation.proofs.follow_channels.Tie as tie
 
 returns : tie.Need-returns
 returns c =
-    let v = c .before .before .before in
-    let u = v .before .before .before .before in
+    let w = c .before .before .before in
+    let v = w .before .before in
+    let x = v .before .before in
+    let u = x .before .before in
     let a = u .before .before .args in
-    sym (track-whole (a .s .now) (a .track) (a .reach) _ _ (known (v .before .before .far .given .1) (u .read-channel .ensures) .reads) _ _ (known (c .before .end .given .1) (v .read-channel2 .ensures) .reads))
+    let e = track-whole (a .s .now) (a .track) (a .reach) _ _ (known (x .u .given .1) (u .read-channel .ensures) .reads) _ _ (known (w .v .given .1) (v .read-channel2 .ensures) .reads) in
+    cc (e, c .before .sample-count .ensures (a .s .now), c .sample-count2 .ensures (a .s .now))
 
 returns-2 : tie.Need-returns-2
 returns-2 c =
     let v = c .before .before .before in
-    let u = v .before .before .before .before in
+    let x = v .before .before in
+    let u = x .before .before in
     let a = u .before .before .args in
-    sym (track-no-v (a .s .now) (a .track) (a .reach) _ _ (known (v .before .before .far .given .1) (u .read-channel .ensures) .reads) _ (known (c .before .n .given .1) (v .read-channel2 .ensures) .reads))
+    sym (track-no-v (a .s .now) (a .track) (a .reach) _ _ (known (x .u .given .1) (u .read-channel .ensures) .reads) _ (known (c .before .n .given .1) (v .read-channel2 .ensures) .reads))
 
 returns-3 : tie.Need-returns-3
 returns-3 c =
@@ -33,6 +37,11 @@ follow-channels-spec =
     (λ c κs. search needs)
     (λ c. search needs)
     (λ c κs. search needs)
+    (λ c. search needs)
+    (λ c κs. search needs)
+    (λ c. search needs)
+    (λ c κs. search needs)
+    (λ c. search needs)
     (λ c. search needs)
     (λ c. search needs)
     (λ c. search needs)

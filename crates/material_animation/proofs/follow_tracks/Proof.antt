@@ -1,43 +1,57 @@
--- `material_animation::follow_tracks` meets its contract. The loop's invariant: what is left of the tracks ends as the whole does.
+-- `material_animation::follow_tracks` meets its contract. The loop's invariant: the tracks left come to what all the tracks do.
 -- Assumes nothing.
-use Prim.Native.Nat.{_≤_, _-_}
+use Prim.Native.Nat.{ℕ, _+_, _-_, _*_, _≤_}
 use mathlib.Core.List.{[]}
 use mathlib.Core.Path.{_≡_, refl, _∙_}
 use native.Mathlib.Omega.{arith}
 use borrow.Author.Needs.{needs}
-use Rattle.util.proofs.Each.{items-left, items-end, item-whole, item-refused}
-use Rattle.material_animation.specs.MaterialAnimation.{channels}
+use Rattle.util.proofs.Each.{items-left, items-all, items-end, item-whole, item-refused}
+use Rattle.material_animation.specs.MaterialAnimation.{trackSamples, channels}
+use Rattle.material_animation.proofs.FiniteLaws.{trackBound, track-few}
 use Rattle.material_animation.proofs.follow_tracks.Statement.{statement}
 use Rattle.material_animation.proofs.follow_tracks.Tie as tie
 
 abbrev Inv-loop : tie.InvT-loop
-Inv-loop s datums count reach far₀ i₀ far i = (i ≤ count) × (items-left channels s 40 (λ bs. bs) datums count [] i far ≡ items-left channels s 40 (λ bs. bs) datums count [] 0 reach)
+Inv-loop s datums count reach far₀ samples₀ i₀ far samples i =
+    (i ≤ count) × (samples ≤ trackBound * i) × (items-left channels s 40 (λ bs. bs) datums count [] trackSamples i far samples ≡ items-left channels s 40 (λ bs. bs) datums count [] trackSamples 0 reach 0)
 
 abbrev μ-loop : tie.MeasureT-loop
-μ-loop s datums count reach far₀ i₀ far i = count - i
+μ-loop s datums count reach far₀ samples₀ i₀ far samples i = count - i
 
 loop-holds : tie.Need-loop-holds Inv-loop μ-loop
-loop-holds c = (omega arith, refl)
+loop-holds c = (omega arith, omega arith, refl)
+
+-- a track's lists are short, so the sum is far from wrapping
+add-samples : tie.Need-add-samples Inv-loop μ-loop
+add-samples c =
+    let f = c .before .before .before in
+    let l = f .before .before in
+    let a = l .before .before .args in
+    let k = track-few (a .s .now) (λ (i : ℕ). omega (arith, l .before .shared-slice-known .given i)) (a .datums + 40 * l .loop .i) (l .loop .far) _ (f .follow-channels .ensures) _ _ (c .before .m .given .1) in
+    omega arith
 
 returns : tie.Need-returns Inv-loop μ-loop
 returns c =
     let f = c .before .before .before in
     let l = f .before .before in
     let a = l .before .before .args in
-    item-refused channels (a .s .now) 40 (λ bs. bs) (a .datums) (a .count) [] _ _ (f .before .loop-test .taken) _ refl _ (f .follow-channels .ensures) _ (c .before .n .given .1) ∙ l .loop .inv .1
+    item-refused channels (a .s .now) 40 (λ bs. bs) (a .datums) (a .count) [] trackSamples _ _ _ (f .before .loop-test .taken) _ refl _ (f .follow-channels .ensures) _ (c .before .n .given .1)
+    ∙ (l .loop .inv .2 ∙ items-all channels (a .s .now) 40 (λ bs. bs) (a .datums) (a .count) [] trackSamples (a .reach))
 
 loop-again : tie.Need-loop-again Inv-loop μ-loop
 loop-again c =
     let f = c .before .before .before in
     let l = f .before .before in
     let a = l .before .before .args in
-    (search needs, item-whole channels (a .s .now) 40 (λ bs. bs) (a .datums) (a .count) [] _ _ (f .before .loop-test .taken) _ refl _ (f .follow-channels .ensures) _ (c .before .m .given .1) ∙ l .loop .inv .1)
+    let k = track-few (a .s .now) (λ (i : ℕ). omega (arith, l .before .shared-slice-known .given i)) (a .datums + 40 * l .loop .i) (l .loop .far) _ (f .follow-channels .ensures) _ _ (c .before .m .given .1) in
+    (omega arith, omega arith, item-whole channels (a .s .now) 40 (λ bs. bs) (a .datums) (a .count) [] trackSamples _ _ _ (f .before .loop-test .taken) _ refl _ (f .follow-channels .ensures) _ _ (c .before .m .given .1) ∙ l .loop .inv .2)
 
 returns-2 : tie.Need-returns-2 Inv-loop μ-loop
 returns-2 c =
     let l = c .before in
     let a = l .before .before .args in
-    items-end channels (a .s .now) 40 (λ bs. bs) (a .datums) (a .count) [] _ _ (c .loop-test .left) ∙ l .loop .inv .1
+    items-end channels (a .s .now) 40 (λ bs. bs) (a .datums) (a .count) [] trackSamples _ _ _ (c .loop-test .left)
+    ∙ (l .loop .inv .2 ∙ items-all channels (a .s .now) 40 (λ bs. bs) (a .datums) (a .count) [] trackSamples (a .reach))
 
 pub follow-tracks-spec : {M : Type 1} → statement M
 follow-tracks-spec =
@@ -50,6 +64,7 @@ follow-tracks-spec =
     (λ c. search needs)
     (λ c κs. search needs)
     (λ c. search needs)
+    add-samples
     (λ c. search needs)
     returns
     (λ c. search needs)

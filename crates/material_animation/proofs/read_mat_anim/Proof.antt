@@ -20,14 +20,14 @@ follow-tracks-requires c κs =
     let b = c .before .before .before in
     let a = b .before .before .before .args in
     let w = known (c .before .b .given .1) (b .read .ensures 8) .holds in
-    omega arith
+    (omega arith, w .few)
 
 returns-3 : tie.Need-returns-3
 returns-3 c =
     let t = c .before .before .before .before in
     let b = t .before .before .before .before in
     let a = b .before .before .before .args in
-    tracks-whole (a .s .now) (b .before .if1 .left) _ (λ reach. known (t .before .before .b .given .1) (b .read .ensures reach)) _ (t .follow-tracks .ensures) _ _ (c .before .before .reach .given .1) (c .word16 .ensures)
+    tracks-whole (a .s .now) (b .before .if1 .left) _ (λ reach. known (t .before .before .b .given .1) (b .read .ensures reach)) _ (t .follow-tracks .ensures) _ _ _ (c .before .before .reach .given .1) (c .word16 .ensures)
 
 returns-4 : tie.Need-returns-4
 returns-4 c =

@@ -34,7 +34,7 @@ follow-tracks-requires c κs =
     let b = c .before .before .before .before in
     let r = b .before .before in
     let w = known (b .block .given .1) (r .read .ensures 0) .holds in
-    omega arith
+    (omega arith, w .few)
 
 returns-5 : tie.Need-returns-5
 returns-5 c =
@@ -45,7 +45,7 @@ returns-5 c =
     let e = r .before in
     let n = e .before .before .before .before .before .before in
     let s = n .before .before .before .before .before .args .s .now in
-    tracks-whole s (n .before .read-names .result) (n .read-names2 .result) (n .before .read-names .ensures) (n .read-names2 .ensures) (n .before .before .before .if1 .left) (e .before .if2 .left) (e .if3 .left) _ (λ reach. known (b .block .given .1) (r .read .ensures reach)) (g .greater3 .result) (cc) (f .follow-tracks .result) (f .follow-tracks .ensures) (n .before .before .word16 .result) (c .before .reach .given .0 .0) (n .before .before .word16 .ensures) (c .before .reach .given .1)
+    tracks-whole s (n .before .read-names .result) (n .read-names2 .result) (n .before .read-names .ensures) (n .read-names2 .ensures) (n .before .before .before .if1 .left) (e .before .if2 .left) (e .if3 .left) _ (λ reach. known (b .block .given .1) (r .read .ensures reach)) (g .greater3 .result) (cc) (f .follow-tracks .result) (f .follow-tracks .ensures) (n .before .before .word16 .result) (c .before .reach .given .0 .0) (c .before .reach .given .0 .1 .0) (n .before .before .word16 .ensures) (c .before .reach .given .1)
 
 returns-6 : tie.Need-returns-6
 returns-6 c =

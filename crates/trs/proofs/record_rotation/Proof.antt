@@ -5,7 +5,7 @@ use Rattle.curve.specs.Curve.{recorded, always}
 use Rattle.curve.proofs.SampleLaws.{list-recorded}
 use Rattle.animation.specs.declared.RotationCurve.{RotationCurve}
 use Rattle.animation.specs.AnimationCode.{rotationCurve, InsideRotation}
-use Rattle.trs.proofs.TrsLaws.{matrix-count}
+use Rattle.animation.proofs.RotationLaws.{matrix-count}
 use borrow.Author.Needs.{needs}
 use Rattle.trs.proofs.record_rotation.Statement.{statement}
 use Rattle.trs.proofs.record_rotation.Tie as tie

@@ -4,7 +4,7 @@ use Rattle.matrix.specs.Matrix.{identity3}
 use Rattle.curve.specs.Curve.{mixMat, sampleAt}
 use Rattle.animation.specs.AnimationCode.{rotationCurve, InsideRotation}
 use Rattle.curve.proofs.SampleLaws.{sample-as, sample-empty}
-use Rattle.trs.proofs.TrsLaws.{matrix-count}
+use Rattle.animation.proofs.RotationLaws.{matrix-count}
 use borrow.Author.Needs.{needs}
 use Rattle.trs.proofs.sample_rotation.Statement.{statement}
 use Rattle.trs.proofs.sample_rotation.Tie as tie

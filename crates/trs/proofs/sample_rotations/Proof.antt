@@ -2,7 +2,7 @@
 use Rattle.matrix.specs.Matrix.{identity3}
 use Rattle.curve.specs.Curve.{mixMat}
 use Rattle.curve.proofs.SampleLaws.{sample-first, sample-last, sample-between}
-use Rattle.trs.proofs.TrsLaws.{matrix-count}
+use Rattle.animation.proofs.RotationLaws.{matrix-count}
 use borrow.Author.Needs.{needs}
 use Rattle.trs.proofs.sample_rotations.Statement.{statement}
 use Rattle.trs.proofs.sample_rotations.Tie as tie

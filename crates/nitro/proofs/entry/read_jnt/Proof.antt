@@ -11,7 +11,7 @@ returns c = subst (AnimationIs (c .before .before .before .before .before .args 
 returns-2 : tie.Need-returns-2
 returns-2 c =
     let w = subst (AnimationIs (c .before .before .before .before .before .args .s .now)) (c .before .a .given .1) (c .before .before .before .read-animation .ensures) in
-    record { held = w .held; reads = w .reads; frames = w .frames; count = w .count; inside = w .inside }
+    record { held = w .held; reads = w .reads; frames = w .frames; count = w .count; samples = w .samples; inside = w .inside }
 
 pub read-jnt-spec : {M : Type 1} → statement M
 read-jnt-spec =

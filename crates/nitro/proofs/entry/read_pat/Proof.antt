@@ -13,7 +13,7 @@ returns-2 : tie.Need-returns-2
 returns-2 c =
     let s = c .before .before .before .before .before .args .s .now in
     let w = subst (PatternIs s) (c .before .a .given .1) (c .before .before .before .read-pattern .ensures) in
-    record { held = w .held; reads = w .reads; frames = w .frames; count = track-count s _ w; inside = w .inside }
+    record { held = w .held; reads = w .reads; frames = w .frames; count = track-count s _ w; samples = w .samples; inside = w .inside }
 
 pub read-pat-spec : {M : Type 1} → statement M
 read-pat-spec =
