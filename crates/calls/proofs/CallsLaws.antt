@@ -10,7 +10,7 @@ use Rattle.info_block.specs.InfoBlock.{Block}
 use Rattle.info_block.specs.NameCode.{OneOf}
 use Rattle.nitro.specs.declared.container.EntryAt.{EntryAt}
 use Rattle.nitro.specs.declared.container.EntryFound.{EntryFound}
-use Rattle.nitro.specs.Container.{Kind, allKinds, stamped, section, Value, value, entry, recordOf, entryOf}
+use Rattle.nitro.specs.Container.{Kind, allKinds, stamped, section, Value, value, Entry, entry, recordOf, entryOf}
 use Rattle.nitro.specs.ContainerCode.{entryFrom}
 use Rattle.nitro.specs.EntryCode.{OpenReads}
 use Rattle.calls.specs.declared.Found.{Found}
@@ -40,11 +40,15 @@ module _ (k : Kind) (s : List ℕ) (i : ℕ) (q : Query k) where
   unfolding answer reader
   entry-denied n e = ap told (stops _ _ _ _ n e)
 
-  -- an entry that is opened and holds v
+  -- an entry that is read whole
+  pub entry-asked : (m : ℕ) (e : Entry k) → run (entryOf k i) s 0 ≡ accepted m e → told (answer (on k i q) s) ≡ ask q e
+  unfolding answer reader
+  entry-asked m e h = ap told (goes-on _ _ _ _ m e h) ∙ said (ask q e) s m
+
+  -- .. that is opened and holds v
   pub asked : (e : EntryAt) → OpenReads k s i (EntryFound.At e) → (m : ℕ) (v : Value k) → run (value k) (drop (e .offset) s) 0 ≡ accepted m v
       → told (answer (on k i q) s) ≡ ask q (record { name = take 16 (drop (e .name) s); offset = e .offset; held = v })
-  unfolding answer reader
-  asked e w m v h = ap told (goes-on _ _ _ _ _ _ (w .reads ∙ ap (entryFrom k s e) h)) ∙ said (ask q (record { name = take 16 (drop (e .name) s); offset = e .offset; held = v })) s _
+  asked e w m v h = entry-asked _ _ (w .reads ∙ ap (entryFrom k s e) h)
 
 -- ---- finding
 

@@ -8,11 +8,11 @@ use borrow.Author.Tests.{lt-ltb}
 use lib.Dec.{ltb}
 use lib.ListN.{length, getD, drop}
 use lib.Ieee.{Float}
-use Rattle.util.specs.Reader.{accepted, refused, run, done, Verdict, answered, denied, given, tell}
+use Rattle.util.specs.Reader.{Outcome, accepted, refused, run, done, Verdict, answered, denied, given, told}
 use Rattle.util.specs.Sums.{sumTo}
 use Rattle.util.proofs.All.{Bytes, all-run, all-bind, all-after}
 use Rattle.util.proofs.Calls.{accepted-first}
-use Rattle.util.proofs.ReadsLaws.{goes-on, done-is}
+use Rattle.util.proofs.ReadsLaws.{done-is}
 use Rattle.util.proofs.NumberLaws.{run-number, numbered-bind}
 use Rattle.util.proofs.SumsLaws.{entryBound, total-sum}
 use Rattle.curve.specs.Curve.{Curve, none, constant, samples, sampleCount, recorded}
@@ -20,14 +20,14 @@ use Rattle.animation.specs.Animation.{Object, stillObject, axesOf, axesSamples,
 use Rattle.material_animation.specs.MaterialAnimation.{trackSamples}
 use Rattle.material_animation.proofs.MaterialLaws.{five-channels}
 use Rattle.pattern.specs.Pattern.{keyCount}
-use Rattle.nitro.specs.Container.{Kind, jnt, srt, pat, allKinds, stamped, Entry, entry, EntryRecord, countOf, recordOf, entryOf, samplesOf}
+use Rattle.nitro.specs.Container.{Kind, jnt, srt, pat, allKinds, stamped, Entry, entry, EntryRecord, countOf, recordOf, samplesOf}
 use Rattle.nitro.proofs.ContainerLaws.{held-read}
 use Rattle.nitro.proofs.EntryLaws.{open-run}
 use Rattle.nitro.proofs.FiniteLaws.{SizedValue, entry-all, samples-few}
 use Rattle.nitro.proofs.NumberLaws.{stamped-numbered, entry-numbered}
 use Rattle.calls.specs.Calls.{ObjectQuery, ObjectReply, Query, Reply, ofObject, curve, rotationCurve, ofMaterial, channelCurve, ofPattern, keys, noTrack, askObject, askMaterial, askPattern, ask, check, on, reader, answer}
 use Rattle.calls.specs.Samples.{adds, lengthOf, axesLengths, objectLengths, trackLengths, keyLengths, handedOut}
-use Rattle.calls.proofs.CallsLaws.{check-stamped}
+use Rattle.calls.proofs.CallsLaws.{check-stamped, entry-asked}
 
 -- a check's refusal has a number other than 0
 pub check-number : (s : List ℕ) (i n : ℕ) → answer (check i) s ≡ refused n → 0 < n
@@ -36,15 +36,14 @@ check-number s i n = run-number _ (numbered-bind (stamped allKinds) _ (stamped-n
 
 -- ---- what an answer adds
 
--- .. that reads nothing more
+-- .. without its reach
 abbrev verdict : {A : Type 0} → (A → ℕ) → Verdict A → ℕ
 verdict f (answered a) = f a
 verdict f (denied n) = 0
 
-tells : {A : Type 0} (f : A → ℕ) (v : Verdict A) (s : List ℕ) (m : ℕ) → adds f (run (tell v) s m) ≡ verdict f v
-unfolding run
-tells f (answered a) s m = refl
-tells f (denied n) s m = refl
+adds-told : {A : Type 0} (f : A → ℕ) (o : Outcome A) → adds f o ≡ verdict f (told o)
+adds-told f (accepted m a) = refl
+adds-told f (refused n) = refl
 
 -- a curve's record tells how many values its list has
 recorded-length : {A : Type 0} (entry : ℕ) (c : Curve A) → lengthOf (recorded entry c) ≡ sampleCount c
@@ -57,13 +56,12 @@ recorded-length entry (samples l vs) = refl
 
 module _ (k : Kind) (s : List ℕ) (i : ℕ) (stamp : run (stamped allKinds) s 0 ≡ accepted 4 k) (j : ℕ) (e : Entry k) (whole : run (entry k i) s 4 ≡ accepted j e) where
   -- what a call on it adds
-  asked : (q : Query k) (f : Reply q → ℕ) → adds f (answer (on k i q) s) ≡ verdict f (ask q e)
-  unfolding answer reader
-  asked q f = ap (adds f) (goes-on (entryOf k i) (λ x. tell (ask q x)) s 0 j e (open-run s i k stamp ∙ whole)) ∙ tells f (ask q e) s j
+  adds-asked : (q : Query k) (f : Reply q → ℕ) → adds f (answer (on k i q) s) ≡ verdict f (ask q e)
+  adds-asked q f = adds-told f (answer (on k i q) s) ∙ ap (verdict f) (entry-asked k s i q j e (open-run s i k stamp ∙ whole))
 
   -- .. about one of its n objects or tracks
   asked-at : (q : Query k) (f : Reply q → ℕ) (o n : ℕ) → o < n → (v : Verdict (Reply q)) → ask q e ≡ given (ltb o n) 9 v → adds f (answer (on k i q) s) ≡ verdict f v
-  asked-at q f o n h v w = asked q f ∙ (ap (verdict f) w ∙ ap (λ (b : Bool). verdict f (given b 9 v)) (lt-ltb o n h))
+  asked-at q f o n h v w = adds-asked q f ∙ (ap (verdict f) w ∙ ap (λ (b : Bool). verdict f (given b 9 v)) (lt-ltb o n h))
 
 module _ (s : List ℕ) (i : ℕ) (stamp : run (stamped allKinds) s 0 ≡ accepted 4 jnt) (j : ℕ) (e : Entry jnt) (whole : run (entry jnt i) s 4 ≡ accepted j e) (o : ℕ) (h : o < length (e .held .objects)) where
   abbrev object : Object

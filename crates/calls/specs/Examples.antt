@@ -139,15 +139,15 @@ nothing-to-sample = (refl, refl, refl)
 
 -- ---- 7. Samples
 
--- the keys of both tracks; and one object whose x and z share a list of two values, y constant, rotation and scale left out
-abbrev pub shared : List ℕ
+-- one object whose x and z share a list of two values; y is constant, rotation and scale are left out
+abbrev shared : List ℕ
 shared =
     stampOf jnt ++ u32 0 ++ block 1 4 (u32 48) (zeros 16)
     ++ (0x4A ∷ 0x00 ∷ 0x41 ∷ 0x43 ∷ []) ++ u16 5 ++ u16 1 ++ zeros 12 ++ u16 22
     ++ u16 0x250 ++ u16 0 ++ u32 (2 * 0x1_0000) ++ u32 46 ++ u32 0x1000 ++ u32 (2 * 0x1_0000) ++ u32 46
     ++ zeros 8
 
--- a list counts each time, a constant never
+-- the keys of both tracks; a list counts each time, a constant never
 pub its-samples :
     (answer (check 0) (blink 0 1) ≡ accepted 168 (record { name = zeros 16; frames = 10; count = 2; samples = 1 }))
     × (answer (check 0) shared ≡ accepted 102 (record { name = zeros 16; frames = 5; count = 1; samples = 4 }))
