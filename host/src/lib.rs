@@ -239,11 +239,13 @@ pub fn check(section: &[u8], entry: usize) -> Result<Record> {
     answer(n, Record { name: name_of(out[0], out[1]), reach: out[2] as usize, frames: out[3] as u16, count: out[4] as usize })
 }
 
-/// The index of an entry with this name, whole or not; none exactly if there is none.
+/// The index of an entry with this name, whole or not; none exactly if there is none. A name ends before its first zero byte, in the section
+/// and in the call, or has all sixteen bytes.
 ///
 /// ```
 /// assert_eq!(motion::find(motion::example::WALK, b"walk\0\0\0\0\0\0\0\0\0\0\0\0"), Ok(Some(0)));
-/// assert_eq!(motion::find(motion::example::WALK, b"run\0\0\0\0\0\0\0\0\0\0\0\0\0"), Ok(None));
+/// assert_eq!(motion::find(motion::example::WALK, b"walk\0leftovers.."), Ok(Some(0)));
+/// assert_eq!(motion::find(motion::example::WALK, b"walking\0\0\0\0\0\0\0\0\0"), Ok(None));
 /// ```
 pub fn find(section: &[u8], name: &[u8; 16]) -> Result<Option<usize>> {
     let mut out = [0; 2];

@@ -42,6 +42,26 @@ fn accepted() {
 }
 
 #[test]
+fn names_with_leftovers() {
+    let mut section = WALK.to_vec();
+    section[36..48].copy_from_slice(b"\0ing leftove");
+    assert_eq!(motion("find - walk", &section), ("entry=0\n".into(), 0));
+    assert_eq!(motion("find - 0x77616c6b00ffffffffffffffffffffff", &section), ("entry=0\n".into(), 0));
+    for missing in ["wal", "walking", "0x00616c6b000000000000000000000000"] {
+        assert_eq!(motion(&format!("find - {missing}"), &section), ("no entry has this name\n".into(), 0), "{missing}");
+    }
+    // what is printed are all sixteen bytes
+    let (record, _) = motion("check - 0", &section);
+    assert!(record.starts_with("name=walk (77616c6b00696e67206c6566746f7665)\n"), "{record}");
+    let (listing, _) = motion("list -", &section);
+    assert!(listing.contains("77616c6b00696e67206c6566746f7665\n"), "{listing}");
+    // an empty name is found by an empty name alone
+    section[32] = 0;
+    assert_eq!(motion("find - 0x00ff0000000000000000000000000000", &section), ("entry=0\n".into(), 0));
+    assert_eq!(motion("find - walk", &section), ("no entry has this name\n".into(), 0));
+}
+
+#[test]
 fn refused() {
     assert_eq!(motion("check - 0", &WALK[..85]), ("".into(), 1));
     assert_eq!(motion("check - 1", WALK), ("".into(), 1));

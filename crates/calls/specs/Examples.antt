@@ -13,7 +13,7 @@ use Rattle.curve.specs.Curve.{listed}
 use Rattle.animation.specs.Animation.{translation, scale}
 use Rattle.nitro.specs.Container.{jnt, srt, pat, stampOf, EntryRecord}
 use Rattle.gltf.specs.Curve.{noSpan, span}
-use Rattle.calls.specs.Calls.{check, on, ofObject, matrix, matrixBytes, curve, resampled, ofPattern, chosen, ofMaterial, channelCurve, answer}
+use Rattle.calls.specs.Calls.{check, find, on, ofObject, matrix, matrixBytes, curve, resampled, ofPattern, chosen, ofMaterial, channelCurve, answer}
 use Rattle.calls.specs.Evaluate.{evaluate}
 use Rattle.calls.specs.Pinned.{walk}
 
@@ -163,3 +163,29 @@ pub its-matrix :
     × (answer (on jnt 0 (ofObject 0 (matrixBytes 5 (zeros 127)))) walk ≡ refused 11)
 unfolding evaluate
 its-matrix = (refl, refl, refl)
+
+-- ---- 9. A name ends before its first zero byte, or has all sixteen
+
+-- walk, and what makes it walking
+abbrev walkBytes : List ℕ
+walkBytes = 0x77 ∷ 0x61 ∷ 0x6C ∷ 0x6B ∷ []
+
+abbrev ingBytes : List ℕ
+ingBytes = 0x69 ∷ 0x6E ∷ 0x67 ∷ []
+
+-- five entries that lead nowhere, since finding reads none: walk with leftovers, walking, an empty name with leftovers, sixteen bytes, fifteen
+abbrev leftover : List ℕ
+leftover =
+    stampOf jnt ++ u32 0
+    ++ block 5 4 (zeros 20) (walkBytes ++ u8 0 ++ ingBytes ++ zeros 8 ++ walkBytes ++ ingBytes ++ zeros 9 ++ u8 0 ++ walkBytes ++ zeros 11 ++ replicate 16 0x61 ++ replicate 15 0x61 ++ u8 0)
+
+-- what is looked for ends before its first zero too: wal, a zero and k is wal
+pub by-fronts :
+    (answer (find (walkBytes ++ zeros 12)) leftover ≡ accepted 144 (0 ∷ []))
+    × (answer (find (walkBytes ++ ingBytes ++ u8 0 ++ replicate 8 0xFF)) leftover ≡ accepted 144 (1 ∷ []))
+    × (answer (find (take 3 walkBytes ++ u8 0 ++ u8 0x6B ++ zeros 11)) leftover ≡ accepted 144 [])
+    × (answer (find (zeros 16)) leftover ≡ accepted 144 (2 ∷ []))
+    × (answer (find (replicate 16 0x61)) leftover ≡ accepted 144 (3 ∷ []))
+    × (answer (find (replicate 15 0x61 ++ u8 0)) leftover ≡ accepted 144 (4 ∷ []))
+unfolding evaluate
+by-fronts = (refl, refl, refl, refl, refl, refl)

@@ -1,4 +1,5 @@
 pub mod InfoBlockLaws
+pub mod EqualLaws
 pub mod NameLaws
 pub mod BytesLaws
 pub mod NumberLaws

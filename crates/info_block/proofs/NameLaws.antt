@@ -1,15 +1,15 @@
 -- Names handed out, compared and found. Assumes nothing.
-use Prim.Native.Nat.{ℕ, suc, _+_, _-_, _*_, _^_, _≤_, _<_}
+use Prim.Native.Nat.{ℕ, suc, _+_, _*_, _^_, _≤_, _<_}
 use mathlib.Core.Bool.{Bool, true, false, cond}
 use mathlib.Core.List.{List, [], _∷_}
 use mathlib.Core.Logic.{inl}
 use mathlib.Core.Path.{_≡_, refl, sym, ap, subst, _∙_}
 use native.Mathlib.Numerals.{add-one}
 use native.Mathlib.Omega.{arith}
-use borrow.Author.Tests.{eq-eqb, ne-eqb, lt-ltb, le-ltb}
-use lib.ListN.{length, take, drop, getD, drop-of-length-le}
+use borrow.Author.Tests.{lt-ltb, le-ltb}
+use lib.ListN.{length, take, drop, getD, length-take, drop-of-length-le}
 use lib.Seq.{drop-cons, drop-drop, getD-take, getD-drop, take-add, take-at, drop-at}
-use Rattle.util.specs.View.{little, littleBytes, wordAt, view, same}
+use Rattle.util.specs.View.{little, littleBytes, wordAt, view}
 use Rattle.util.specs.Reader.{answered, denied}
 use Rattle.util.proofs.All.{Bytes, word-bytes}
 use Rattle.util.proofs.ViewLaws.{length-little, little-little, view-length, view-there}
@@ -17,6 +17,7 @@ use Rattle.info_block.specs.declared.InfoBlock.{InfoBlock}
 use Rattle.info_block.specs.declared.name.Name.{Name as CodeName}
 use Rattle.info_block.specs.Name.{Name, equal, named, nameAmong}
 use Rattle.info_block.specs.NameCode.{nameMeans, OneOf}
+use Rattle.info_block.proofs.EqualLaws.{equal-names, equal-differ, equal-ends, equal-goes-on, equal-from}
 
 -- ---- a name's two words
 
@@ -55,19 +56,34 @@ module _ (s : List ℕ) (off : ℕ) (b : InfoBlock) (i : ℕ) where
       let l : i < length names = rw names-length h in
       rw (lt-ltb i (length names) l, view-there 16 (λ bs. bs) (b .count) i (b .names) (drop off s) [] h, drop-drop (b .names + 16 * i) off s) (ap answered e)
 
--- ---- two names, from the last byte on
+-- ---- a name and the one at p, from byte k on
 
-module _ (a s : List ℕ) (p j : ℕ) (h : j < 16) where
-  byte-of : getD (take 16 (drop p s)) j 0 ≡ getD s (p + j) 0
-  byte-of = getD-take 16 (drop p s) j 0 h ∙ getD-drop p s j 0
+module _ (a s : List ℕ) (p : ℕ) where
+  abbrev pub equal-rest : ℕ → Bool
+  equal-rest j = equal (drop j a) (drop j (take 16 (drop p s)))
 
-  pub bytes-differ : (getD a j 0 ≡ getD s (p + j) 0 → ⊥) → same (suc j) a (take 16 (drop p s)) ≡ false
-  unfolding same
-  bytes-differ e = rw (byte-of, ne-eqb (getD a j 0) (getD s (p + j) 0) e) refl
+  module _ (k : ℕ) (h : k < 16) where
+    byte-of : getD (take 16 (drop p s)) k 0 ≡ getD s (p + k) 0
+    byte-of = getD-take 16 (drop p s) k 0 h ∙ getD-drop p s k 0
 
-  pub bytes-same : getD a j 0 ≡ getD s (p + j) 0 → same (suc j) a (take 16 (drop p s)) ≡ same j a (take 16 (drop p s))
-  unfolding same
-  bytes-same e = rw (byte-of, eq-eqb (getD a j 0) (getD s (p + j) 0) e) refl
+    rest : equal-rest k ≡ equal (getD a k 0 ∷ drop (suc k) a) (getD s (p + k) 0 ∷ drop (suc k) (take 16 (drop p s)))
+    rest = equal-from a (take 16 (drop p s)) k ∙ ap (λ (y : ℕ). equal (getD a k 0 ∷ drop (suc k) a) (y ∷ drop (suc k) (take 16 (drop p s)))) byte-of
+
+    pub rest-differ : (getD a k 0 ≡ getD s (p + k) 0 → ⊥) → equal-rest k ≡ false
+    rest-differ e = rest ∙ equal-differ _ _ _ _ e
+
+    pub rest-ends : getD a k 0 ≡ getD s (p + k) 0 → getD a k 0 ≡ 0 → equal-rest k ≡ true
+    rest-ends e z = rest ∙ equal-ends _ _ _ _ e z
+
+    pub rest-goes-on : getD a k 0 ≡ getD s (p + k) 0 → (getD a k 0 ≡ 0 → ⊥) → equal-rest k ≡ equal-rest (k + 1)
+    rest-goes-on e z = rest ∙ (equal-goes-on _ _ _ _ e z ∙ ap equal-rest (sym (add-one k)))
+
+  -- nothing is left
+  pub rest-none : (k : ℕ) → length a ≡ 16 → 16 ≤ k → equal-rest k ≡ true
+  rest-none k l h =
+      let n : length a ≤ k = omega arith in
+      let m : length (take 16 (drop p s)) ≤ k = omega (arith, length-take 16 (drop p s)) in
+      rw (drop-of-length-le a n, drop-of-length-le (take 16 (drop p s)) m) (equal-names .reflexive [])
 
 -- ---- a name among names
 
@@ -98,18 +114,3 @@ module _ (name : Name) (s : List ℕ) (names count : ℕ) where
 
 pub one-of-head : (j : ℕ) (is rest : List ℕ) → is ≡ j ∷ rest → OneOf j is
 one-of-head j is rest e = subst (OneOf j) (sym e) (inl refl)
-
--- one byte of the loop, at k - 1
-module _ (a s : List ℕ) (p k : ℕ) (low : 0 < k) (high : k ≤ 16) where
-  back : suc (k - 1) ≡ k
-  back = omega arith
-
-  pub loop-differ : (getD a (k - 1) 0 ≡ getD s (p + (k - 1)) 0 → ⊥) → same k a (take 16 (drop p s)) ≡ false
-  loop-differ e = subst (λ (n : ℕ). same n a (take 16 (drop p s)) ≡ false) back (bytes-differ a s p (k - 1) (omega arith) e)
-
-  pub loop-same : getD a (k - 1) 0 ≡ getD s (p + (k - 1)) 0 → same (k - 1) a (take 16 (drop p s)) ≡ same k a (take 16 (drop p s))
-  loop-same e = sym (bytes-same a s p (k - 1) (omega arith) e) ∙ ap (λ (n : ℕ). same n a (take 16 (drop p s))) back
-
-pub loop-done : (a b : List ℕ) (k : ℕ) → k ≤ 0 → same k a b ≡ true
-unfolding same
-loop-done a b k h = let z : k ≡ 0 = omega arith in rw z refl

@@ -1,18 +1,44 @@
 -- Names: sixteen bytes. Assumes nothing.
 use Prim.Native.Nat.{ℕ, suc}
-use mathlib.Core.Bool.{Bool, cond}
-use mathlib.Core.List.{List, [], _∷_}
-use lib.Dec.{ltb}
+use mathlib.Core.Bool.{Bool, true, false, cond}
+use mathlib.Core.List.{List, [], _∷_, _++_}
+use mathlib.Core.Path.{_≡_}
+use lib.Dec.{ltb, eqb}
 use lib.ListN.{length, getD}
 use Rattle.util.specs.Reader.{Verdict, answered, given}
-use Rattle.util.specs.View.{same}
 
 abbrev pub Name : Type 0
 Name = List ℕ
 
--- names are equal when all sixteen bytes are
+-- the front of a name: its bytes before the first zero byte, or all of them
+unfoldable pub frontOf : Name → List ℕ
+frontOf [] = []
+frontOf (b ∷ bs) = cond (eqb b 0) [] (b ∷ frontOf bs)
+
+-- whether two lists of bytes are the same
+unfoldable pub sameBytes : List ℕ → List ℕ → Bool
+sameBytes [] [] = true
+sameBytes [] (y ∷ ys) = false
+sameBytes (x ∷ xs) [] = false
+sameBytes (x ∷ xs) (y ∷ ys) = cond (eqb x y) (sameBytes xs ys) false
+
+-- names are equal when their fronts are
 unfoldable pub equal : Name → Name → Bool
-equal a b = same 16 a b
+equal a b = sameBytes (frontOf a) (frontOf b)
+
+-- What is promised of equal names. Proved in proofs/EqualLaws.antt.
+pub record EqualNames : Type 0 where
+  pub reflexive : (a : Name) → equal a a ≡ true
+  pub symmetric : (a b : Name) → equal a b ≡ true → equal b a ≡ true
+  pub transitive : (a b c : Name) → equal a b ≡ true → equal b c ≡ true → equal a c ≡ true
+  -- names of the same bytes are equal; so are names of the same front, and no others
+  pub same-names : (a b : Name) → a ≡ b → equal a b ≡ true
+  pub same-fronts : (a b : Name) → frontOf a ≡ frontOf b → equal a b ≡ true
+  pub no-others : (a b : Name) → equal a b ≡ true → frontOf a ≡ frontOf b
+  -- a zero and whatever stands after it change nothing
+  pub leftovers : (a r b : List ℕ) → equal (a ++ 0 ∷ r) b ≡ equal a b
+  -- an empty name, one that begins with a zero, equals exactly those that do
+  pub empty : (r : List ℕ) (x : ℕ) (b : List ℕ) → equal (0 ∷ r) (x ∷ b) ≡ eqb x 0
 
 -- which of some names equal a given one: their indexes, the first name having index i
 unfoldable pub named : Name → ℕ → List Name → List ℕ

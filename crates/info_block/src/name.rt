@@ -41,17 +41,23 @@ pub fn name_in(s: &[u8], offset: usize, block: InfoBlock, i: usize) -> NameAnswe
     NameAnswer::Name(name_at(s, offset + (block.names + 16 * i)))
 }
 
-// Whether the name at p is this one.
+// Whether the name at p is this one: up to a zero that both have, or all sixteen bytes.
 fn same_name(s: &[u8], p: usize, name: &[u8; 16]) -> bool
     requires { ⌜ p + 16 ≤ length (now s) ⌝ }
     ensures { λ r. ⌜ r ≡ equal (now (name .entry)) (take 16 (drop p (now (s .entry)))) ⌝ }
 {
-    let mut k = 16usize;
-    while 0 < k {
-        if name[k - 1] != s[p + (k - 1)] {
+    // as a slice: where the walk ends at its end, its length has to be known
+    let bytes: &[u8] = name;
+    let mut k = 0usize;
+    while k < 16 {
+        let byte = bytes[k];
+        if byte != s[p + k] {
             return false;
         }
-        k -= 1;
+        if byte == 0 {
+            return true;
+        }
+        k += 1;
     }
     true
 }

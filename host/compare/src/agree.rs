@@ -19,6 +19,8 @@ pub struct Counts {
     pub accepted: usize,
     /// Sections and entries refused with each number.
     pub refused: [usize; 14],
+    /// Names that were looked for.
+    pub names: usize,
     pub matrices: usize,
     pub choices: usize,
     pub curves: usize,
@@ -74,7 +76,7 @@ pub fn section(s: &[u8], rng: &mut Rng, counts: &mut Counts) -> Agreed {
         Ok(entries) => entries,
     };
     agree!(read.iter().filter(|e| e.value.is_ok()).count(), oracle::kept(s), "the entries that the Rust keeps");
-    finding(s, &read)?;
+    finding(s, &read, counts)?;
     totals(s, &read)?;
     agree!(motion::check(s, read.len()), Err(Refusal(9)), "the entry after the last");
     agree!(motion::check(s, usize::MAX), Err(Refusal(9)), "the last index there is");
@@ -84,16 +86,37 @@ pub fn section(s: &[u8], rng: &mut Rng, counts: &mut Counts) -> Agreed {
     Ok(())
 }
 
-fn finding(s: &[u8], read: &[Entry]) -> Agreed {
-    for e in read {
-        match motion::find(s, &e.name) {
-            Ok(Some(i)) if i < read.len() && read[i].name == e.name => {}
-            other => return Err(format!("finding {:?} gives {other:?}", e.name)),
-        }
+/// Names to look for: this one, with each byte a zero, with each byte another one, and with other bytes behind its zero.
+fn sought(name: &[u8; 16]) -> Vec<[u8; 16]> {
+    let with = |k: usize, byte: u8| {
+        let mut other = *name;
+        other[k] = byte;
+        other
+    };
+    let mut names = vec![*name];
+    names.extend((0..16).flat_map(|k| [with(k, 0), with(k, name[k].wrapping_add(1))]));
+    let mut leftovers = *name;
+    leftovers.iter_mut().skip_while(|b| **b != 0).skip(1).for_each(|b| *b = !*b);
+    names.push(leftovers);
+    names
+}
+
+/// An entry whose name has the same front, or none where there is none.
+fn found(s: &[u8], read: &[Entry], name: &[u8; 16]) -> Agreed {
+    let equal = |e: &Entry| layout::front(&e.name) == layout::front(name);
+    match motion::find(s, name) {
+        Ok(Some(i)) if read.get(i).is_some_and(equal) => Ok(()),
+        Ok(None) if !read.iter().any(equal) => Ok(()),
+        other => Err(format!("finding {name:?} gives {other:?}")),
     }
-    let other = *b"no entry's name!";
-    let there = read.iter().any(|e| e.name == other);
-    agree!(motion::find(s, &other).map(|i| i.is_some()), Ok(there), "finding a name that is not there");
+}
+
+fn finding(s: &[u8], read: &[Entry], counts: &mut Counts) -> Agreed {
+    let there = read.iter().flat_map(|e| sought(&e.name));
+    for name in there.chain([*b"no entry's name!"]) {
+        found(s, read, &name)?;
+        counts.names += 1;
+    }
     Ok(())
 }
 

@@ -1,6 +1,7 @@
 //! What a cut does, tried on the compiled code: every call on the front, with other bytes behind it, and on the section as it was.
 use crate::agree::{Agreed, Counts};
 use crate::fill::{self, as_floats};
+use crate::layout;
 use crate::rng::Rng;
 
 /// The number of a call, and all that it answers as words.
@@ -87,12 +88,36 @@ fn answers(s: &[u8], i: usize, count: usize, fill: &Fill) -> Result<Vec<Answer>,
     Ok(all)
 }
 
+/// The name of an entry, or another where the section has none.
+fn name_of(s: &[u8], i: usize) -> [u8; 16] {
+    match motion::find(s, &[0; 16]) {
+        Ok(_) => s[layout::names(s) + 16 * i..][..16].try_into().unwrap(),
+        Err(_) => *b"no entry's name!",
+    }
+}
+
+/// Finding reads the info block and no entry: so from the block's end on it answers as before, and a shorter front is too short.
+fn finding(s: &[u8], k: usize, tail: &[u8], name: &[u8; 16]) -> Agreed {
+    let [uncut, front, with_tail] = [s, &s[..k], tail].map(|t| motion::find(t, name));
+    let short = Err(motion::Refusal(2));
+    let holds = match uncut {
+        Ok(_) if layout::names_end(s) <= k => front == uncut && with_tail == uncut,
+        Ok(_) => front == short,
+        Err(_) => front == short || front == with_tail,
+    };
+    match holds {
+        true => Ok(()),
+        false => Err(format!("{front:?}, with a tail {with_tail:?}, uncut {uncut:?}")),
+    }
+}
+
 /// Every cut of a section.
 pub fn every(s: &[u8], rng: &mut Rng, counts: &mut Counts) -> Agreed {
     let entries = (0..).take_while(|&i| motion::number(s, i) != 9 && i < 4).count();
     for i in 0..entries {
         let record = motion::check(s, i);
         let count = record.map_or(1, |r| r.count);
+        let name = name_of(s, i);
         let fill = Fill { floats: fill::floats(rng, 40), bytes: rng.bytes(131) };
         let uncut = answers(s, i, count, &fill)?;
         for k in 0..=s.len() {
@@ -101,6 +126,7 @@ pub fn every(s: &[u8], rng: &mut Rng, counts: &mut Counts) -> Agreed {
             let n = rng.below(20);
             let tail = [s[..k].to_vec(), rng.bytes(n)].concat();
             let with_tail = answers(&tail, i, count, &fill)?;
+            finding(s, k, &tail, &name).map_err(|m| format!("finding {name:?}, cut at {k}: {m}"))?;
             for (call, before) in front.iter().enumerate() {
                 let at = |what| Err(format!("entry {i}, cut at {k}, call {call}: {what}"));
                 if before[0] != 0 && before[0] != 2 && with_tail[call][0] != before[0] {

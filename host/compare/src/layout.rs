@@ -23,6 +23,21 @@ pub fn entry(s: &[u8], i: usize) -> usize {
     word32(s, datum(s, 8, 4, i))
 }
 
+/// Where the names of the section's entries stand: behind the last datum.
+pub fn names(s: &[u8]) -> usize {
+    datum(s, 8, 4, s[9] as usize)
+}
+
+/// Where they end, and with them the section's info block.
+pub fn names_end(s: &[u8]) -> usize {
+    names(s) + 16 * s[9] as usize
+}
+
+/// A name up to its first zero byte, or all of it: what finding compares names by. The Rust compares all sixteen bytes.
+pub fn front(name: &[u8; 16]) -> &[u8] {
+    name.split(|&b| b == 0).next().unwrap()
+}
+
 /// A list's place in the section, and the bytes of each value; none for a constant or no curve.
 pub type List = Option<(usize, usize)>;
 

@@ -141,11 +141,16 @@ fn main() {
             }
         }
     }
+    // names that end at each place
+    for s in sections::named() {
+        run.section("names", &s);
+        run.cuts(&s);
+    }
     let c = &run.counts;
     eprintln!();
     println!(
-        "agreed: {} sections, {} entries ({} accepted), {} matrices, {} choices, {} curves, {} resampled lists, {} cuts",
-        c.sections, c.entries, c.accepted, c.matrices, c.choices, c.curves, c.resampled, c.cuts
+        "agreed: {} sections, {} entries ({} accepted), {} names looked for, {} matrices, {} choices, {} curves, {} resampled lists, {} cuts",
+        c.sections, c.entries, c.accepted, c.names, c.matrices, c.choices, c.curves, c.resampled, c.cuts
     );
     let refused: Vec<_> = (1..14).filter(|&n| c.refused[n] > 0).map(|n| format!("{n}: {}", c.refused[n])).collect();
     println!("sections and entries refused with each number: {}", refused.join(", "));

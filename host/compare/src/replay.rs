@@ -141,7 +141,7 @@ fn answer(s: &[u8], call: &Call, lent: &mut Lent) -> Result<(), u32> {
     }
     let mut entries: Vec<Entry> = entries?;
     if call.code == FIND {
-        match entries.iter().position(|e| e.name == call.name) {
+        match entries.iter().position(|e| layout::front(&e.name) == layout::front(&call.name)) {
             Some(i) => put(&mut lent.words, &[1, i as u64]),
             None => put(&mut lent.words, &[0]),
         }
@@ -245,8 +245,7 @@ fn call(s: &[u8], code: u8, rng: &mut Rng) -> Call {
     name[0] = b'a' + rng.below(4) as u8;
     // sometimes a name that stands in the section
     if s.len() > 60 && rng.once_in(2) {
-        let count = s[9] as usize;
-        let at = 24 + 8 * count;
+        let at = layout::names(s);
         if s.len() >= at + 16 {
             name.copy_from_slice(&s[at..at + 16]);
         }
@@ -297,6 +296,17 @@ pub fn stored(sections: usize) -> (Vec<u8>, String) {
             _ => &[RECORD, FIND, CHECK, MATRIX],
         };
         let calls: Vec<Call> = codes.iter().map(|&code| call(&s, code, rng)).collect();
+        kept.push((s, calls));
+    }
+    // names that end at each place, with other bytes behind them, and with another last letter
+    for s in sections::named() {
+        let there = (0..=16).map(|n| sections::ended(n, 0xee));
+        let missing = (1..=16).map(|n| {
+            let mut name = sections::ended(n, 0xee);
+            name[n - 1] = b'z';
+            name
+        });
+        let calls = there.chain(missing).map(|name| Call { name, ..call(&s, FIND, rng) }).collect();
         kept.push((s, calls));
     }
     let count: usize = kept.iter().map(|(_, calls)| calls.len()).sum();

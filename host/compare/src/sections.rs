@@ -369,6 +369,31 @@ pub fn inside_the_block(rng: &mut Rng) -> Vec<Vec<u8>> {
     found
 }
 
+/// The first so many letters, a zero if there is room, and other bytes behind it.
+pub fn ended(letters: usize, leftovers: u8) -> [u8; 16] {
+    let mut name = [leftovers; 16];
+    name[..letters].copy_from_slice(&b"abcdefghijklmnop"[..letters]);
+    if letters < 16 {
+        name[letters] = 0;
+    }
+    name
+}
+
+/// Sections of each stamp whose names end at each of the sixteen places, or have sixteen bytes: the shortest first, the longest first, and each
+/// of them twice. Their entries stand past the end.
+pub fn named() -> Vec<Vec<u8>> {
+    let rising: Vec<_> = (0..=16).map(|n| ended(n, b'q')).collect();
+    let falling: Vec<_> = (0..=16).rev().map(|n| ended(n, 0xff)).collect();
+    let twice = [&rising[..], &falling].concat();
+    let mut found = Vec::new();
+    for (stamp, names) in [b"JNT0", b"SRT0", b"PAT0"].into_iter().zip([rising, falling, twice]) {
+        let mut s = [&stamp[..], &[0; 4]].concat();
+        info_block(&mut s, 4, &vec![vec![0xff; 4]; names.len()], &names);
+        found.push(s);
+    }
+    found
+}
+
 /// A section with a word of two or four bytes at `at` in the place of what stood there: the extremes, and positions around its end.
 pub fn with_words(s: &[u8], at: usize) -> Vec<Vec<u8>> {
     let n = s.len() as u32;
