@@ -15,7 +15,7 @@ use Rattle.nitro.specs.Container.{jnt, srt, pat, stampOf, EntryRecord}
 use Rattle.gltf.specs.Curve.{noSpan, span}
 use Rattle.calls.specs.Calls.{check, find, on, ofObject, matrix, matrixBytes, curve, resampled, ofPattern, chosen, ofMaterial, channelCurve, answer}
 use Rattle.calls.specs.Evaluate.{evaluate}
-use Rattle.calls.specs.Pinned.{walk}
+use Rattle.calls.specs.Pinned.{walk, walkName}
 
 -- ---- how the sections are put together
 
@@ -168,12 +168,12 @@ its-matrix = (refl, refl, refl)
 
 -- walk, and what makes it walking
 abbrev walkBytes : List ℕ
-walkBytes = 0x77 ∷ 0x61 ∷ 0x6C ∷ 0x6B ∷ []
+walkBytes = take 4 walkName
 
 abbrev ingBytes : List ℕ
 ingBytes = 0x69 ∷ 0x6E ∷ 0x67 ∷ []
 
--- five entries that lead nowhere, since finding reads none: walk with leftovers, walking, an empty name with leftovers, sixteen bytes, fifteen
+-- five entries, of which finding reads no more than their names: walk with leftovers, walking, an empty name with leftovers, sixteen bytes, fifteen
 abbrev leftover : List ℕ
 leftover =
     stampOf jnt ++ u32 0
@@ -181,7 +181,7 @@ leftover =
 
 -- what is looked for ends before its first zero too: wal, a zero and k is wal
 pub by-fronts :
-    (answer (find (walkBytes ++ zeros 12)) leftover ≡ accepted 144 (0 ∷ []))
+    (answer (find walkName) leftover ≡ accepted 144 (0 ∷ []))
     × (answer (find (walkBytes ++ ingBytes ++ u8 0 ++ replicate 8 0xFF)) leftover ≡ accepted 144 (1 ∷ []))
     × (answer (find (take 3 walkBytes ++ u8 0 ++ u8 0x6B ++ zeros 11)) leftover ≡ accepted 144 [])
     × (answer (find (zeros 16)) leftover ≡ accepted 144 (2 ∷ []))

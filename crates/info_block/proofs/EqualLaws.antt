@@ -1,6 +1,6 @@
 -- Equal names: what is promised of them, and how they are told byte by byte. Assumes nothing.
 use Prim.Native.Nat.{ℕ, zero, suc}
-use mathlib.Core.Bool.{Bool, true, false, cond, false≢true}
+use mathlib.Core.Bool.{Bool, true, false, cond, false≢true, and-eq-true-iff, not-eq-not}
 use mathlib.Core.List.{List, [], _∷_, _++_}
 use mathlib.Core.Path.{_≡_, refl, sym, ap, subst, _∙_}
 use native.Mathlib.Nat.{suc-ne-zero}
@@ -22,11 +22,7 @@ unfolding sameBytes
 same-is [] [] e = refl
 same-is [] (y ∷ ys) e = absurd (false≢true e)
 same-is (x ∷ xs) [] e = absurd (false≢true e)
-same-is (x ∷ xs) (y ∷ ys) e = byte (eqb x y) refl (λ h. same-is xs ys h) e
-  where
-    byte : (t : Bool) → eqb x y ≡ t → (sameBytes xs ys ≡ true → xs ≡ ys) → cond t (sameBytes xs ys) false ≡ true → x ∷ xs ≡ y ∷ ys
-    byte true q more h = λ i. eqb-true x y q i ∷ more h i
-    byte false q more h = absurd (false≢true h)
+same-is (x ∷ xs) (y ∷ ys) e = let w = and-eq-true-iff (eqb x y) (sameBytes xs ys) .0 e in λ i. eqb-true x y (w .0) i ∷ same-is xs ys (w .1) i
 
 -- ---- what is promised
 
@@ -77,13 +73,9 @@ unfolding frontOf
 front-head zero a = refl
 front-head (suc x) a = rw (ne-eqb (suc x) 0 (suc-ne-zero x)) refl
 
-untrue : (t : Bool) → (t ≡ true → ⊥) → t ≡ false
-untrue true h = absurd (h refl)
-untrue false h = refl
-
 module _ (x y : ℕ) (a b : List ℕ) where
   pub equal-differ : (x ≡ y → ⊥) → equal (x ∷ a) (y ∷ b) ≡ false
-  equal-differ h = untrue _ (λ e. h (sym (front-head x a) ∙ (ap (λ (l : List ℕ). getD l 0 0) (no-others (x ∷ a) (y ∷ b) e) ∙ front-head y b)))
+  equal-differ h = not-eq-not {b = false} .0 (λ e. h (sym (front-head x a) ∙ (ap (λ (l : List ℕ). getD l 0 0) (no-others (x ∷ a) (y ∷ b) e) ∙ front-head y b)))
 
   pub equal-ends : x ≡ y → x ≡ 0 → equal (x ∷ a) (y ∷ b) ≡ true
   equal-ends e z = rw (sym e, z) (empty a 0 b)

@@ -46,7 +46,7 @@ fn same_name(s: &[u8], p: usize, name: &[u8; 16]) -> bool
     requires { ⌜ p + 16 ≤ length (now s) ⌝ }
     ensures { λ r. ⌜ r ≡ equal (now (name .entry)) (take 16 (drop p (now (s .entry)))) ⌝ }
 {
-    // as a slice: where the walk ends at its end, its length has to be known
+    // as a slice, since only of a slice a proof is told how long it is
     let bytes: &[u8] = name;
     let mut k = 0usize;
     while k < 16 {

@@ -88,7 +88,7 @@ fn answers(s: &[u8], i: usize, count: usize, fill: &Fill) -> Result<Vec<Answer>,
     Ok(all)
 }
 
-/// The name of an entry, or another where the section has none.
+/// The name of an entry, or some name where the section is refused.
 fn name_of(s: &[u8], i: usize) -> [u8; 16] {
     match motion::find(s, &[0; 16]) {
         Ok(_) => s[layout::names(s) + 16 * i..][..16].try_into().unwrap(),
