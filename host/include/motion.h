@@ -43,7 +43,8 @@ uint32_t motion_matrix(const uint8_t *section, size_t length, size_t entry, size
  * objects or tracks it has. */
 uint32_t motion_record(const uint8_t *section, size_t length, size_t entry, uint64_t out[5]);
 
-/* An entry with this name: 1 and its index, or 0 if there is none. A name ends before its first zero byte, or has all sixteen bytes. */
+/* The earliest entry with this name: 1 and its index, or 0 if there is none. A name ends before its first zero byte, or has all sixteen
+ * bytes. */
 uint32_t motion_find(const uint8_t *section, size_t length, const uint8_t name[16], uint64_t out[2]);
 
 /* A curve of an object or track. out[0] is 0 for none; 1 for a constant, whose value goes to `value`; 2 for a list, with its start, end,

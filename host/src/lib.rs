@@ -239,8 +239,8 @@ pub fn check(section: &[u8], entry: usize) -> Result<Record> {
     answer(n, Record { name: name_of(out[0], out[1]), reach: out[2] as usize, frames: out[3] as u16, count: out[4] as usize })
 }
 
-/// The index of an entry with this name, whole or not; none exactly if there is none. A name ends before its first zero byte, in the section
-/// and in the call, or has all sixteen bytes.
+/// The index of the earliest entry with this name, whole or not; none exactly if there is none. A name ends before its first zero byte, in the
+/// section and in the call, or has all sixteen bytes.
 ///
 /// ```
 /// assert_eq!(motion::find(motion::example::WALK, b"walk\0\0\0\0\0\0\0\0\0\0\0\0"), Ok(Some(0)));

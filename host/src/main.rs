@@ -22,7 +22,7 @@ motion resample FILE ENTRY OBJECT translation
 motion resample FILE ENTRY OBJECT scale
 
 FILE is a JNT0, SRT0 or PAT0 section; - is standard input. NAME is text, or 0x and 32 hex digits; it ends before its
-first zero byte, and so does an entry's name. FRAME is 0 to 65535.
+first zero byte, and so does an entry's name. Of entries with equal names the first is found. FRAME is 0 to 65535.
 ENTRY, OBJECT, TRACK, AXIS and CHANNEL count from 0.
 --bits, in any place, prints each float as sixteen hex digits.
 The exit status is 0 where the section accepts, 1 where it refuses, 2 for misuse and where reading or writing fails.";

@@ -62,6 +62,22 @@ fn names_with_leftovers() {
 }
 
 #[test]
+fn equal_names() {
+    // two entries, both at the place of the walk: walk with leftovers, and walk as it is looked for
+    let mut section = [&WALK[..8], &[0, 2], &[0; 18], &[4, 0, 0, 0], &[72, 0, 0, 0].repeat(2), b"walk\0old leftove", &WALK[32..]].concat();
+    for entry in 0..2 {
+        assert_eq!(motion(&format!("matrix - {entry} 0 5"), &section), motion("matrix - 0 0 5", WALK));
+    }
+    assert_eq!(motion("find - walk", &section), ("entry=0\n".into(), 0));
+    // a refused entry counts, and the second is found where it alone has the name
+    section[32] = 0xff;
+    assert_eq!(motion("check - 0", &section), ("".into(), 1));
+    assert_eq!(motion("find - walk", &section), ("entry=0\n".into(), 0));
+    section[40] = b'W';
+    assert_eq!(motion("find - walk", &section), ("entry=1\n".into(), 0));
+}
+
+#[test]
 fn refused() {
     assert_eq!(motion("check - 0", &WALK[..85]), ("".into(), 1));
     assert_eq!(motion("check - 1", WALK), ("".into(), 1));

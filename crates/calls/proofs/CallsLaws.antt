@@ -1,20 +1,17 @@
 -- A call's answer, from what its steps found. Assumes nothing.
 use Prim.Native.Nat.{ℕ}
-use mathlib.Core.List.{List, []}
-use mathlib.Core.Path.{_≡_, refl, sym, ap, subst, _∙_}
+use mathlib.Core.List.{List}
+use mathlib.Core.Path.{_≡_, refl, ap, _∙_}
 use lib.ListN.{take, drop}
-use Rattle.util.specs.Reader.{done, Outcome, accepted, refused, run, bind, Verdict, answered, denied, tell, told}
+use Rattle.util.specs.Reader.{done, accepted, refused, run, bind, Verdict, answered, denied, tell, told}
 use Rattle.util.proofs.ReadsLaws.{goes-on, stops}
-use Rattle.info_block.specs.Name.{Name, named}
+use Rattle.info_block.specs.Name.{Name, earliest}
 use Rattle.info_block.specs.InfoBlock.{Block}
-use Rattle.info_block.specs.NameCode.{OneOf}
 use Rattle.nitro.specs.declared.container.EntryAt.{EntryAt}
 use Rattle.nitro.specs.declared.container.EntryFound.{EntryFound}
 use Rattle.nitro.specs.Container.{Kind, allKinds, stamped, section, Value, value, Entry, entry, recordOf, entryOf}
 use Rattle.nitro.specs.ContainerCode.{entryFrom}
 use Rattle.nitro.specs.EntryCode.{OpenReads}
-use Rattle.calls.specs.declared.Found.{Found}
-use Rattle.calls.specs.FindingCode.{Finds}
 use Rattle.calls.specs.Calls.{Query, ask, check, find, on, reader, answer}
 
 -- ---- calls that take all kinds
@@ -62,17 +59,6 @@ module _ (s : List ℕ) (name : Name) where
     unfolding answer reader
     find-headless n q = goes-on _ _ _ _ 4 k e ∙ stops _ _ _ _ n q
 
-    pub find-named : (m : ℕ) (b : Block) → run section s 4 ≡ accepted m b → answer (find name) s ≡ accepted m (named name 0 (b .names))
+    pub find-earliest : (m : ℕ) (b : Block) → run section s 4 ≡ accepted m b → answer (find name) s ≡ accepted m (earliest name (b .names))
     unfolding answer reader run
-    find-named m b q = goes-on _ _ _ _ 4 k e ∙ goes-on _ _ _ _ m b q
-
--- the answer, by its case
-module _ (name : Name) (s : List ℕ) where
-  pub found-no : (n : ℕ) → answer (find name) s ≡ refused n → Finds (answer (find name) s) (Found.Refused n)
-  found-no n e = subst (λ (o : Outcome (List ℕ)). Finds o (Found.Refused n)) (sym e) refl
-
-  pub found-yes : (m : ℕ) (is : List ℕ) → answer (find name) s ≡ accepted m is → (j : ℕ) → OneOf j is → Finds (answer (find name) s) (Found.At j)
-  found-yes m is e j h = subst (λ (o : Outcome (List ℕ)). Finds o (Found.At j)) (sym e) h
-
-  pub found-none : (m : ℕ) (is : List ℕ) → answer (find name) s ≡ accepted m is → is ≡ [] → Finds (answer (find name) s) Found.Nothing
-  found-none m is e h = subst (λ (o : Outcome (List ℕ)). Finds o Found.Nothing) (sym e) h
+    find-earliest m b q = goes-on _ _ _ _ 4 k e ∙ goes-on _ _ _ _ m b q

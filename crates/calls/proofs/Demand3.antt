@@ -2,6 +2,7 @@
 use Prim.Native.Nat.{ℕ, _≤_, _<_}
 use mathlib.Core.List.{List, [], _∷_}
 use mathlib.Core.Logic.{⊎-elim}
+use mathlib.Core.Option.{Option}
 use mathlib.Core.Path.{_≡_, refl, sym, ap, subst, _∙_}
 use native.Mathlib.Omega.{arith}
 use lib.ListN.{length, take, length-append, length-take}
@@ -11,11 +12,12 @@ use Rattle.util.proofs.Cut as util-cut
 use Rattle.util.proofs.Cut.{had, grows, same-part}
 use Rattle.util.proofs.Calls as util-calls
 use Rattle.util.proofs.Calls.{after, run-bind-as, accepted-first}
-use Rattle.info_block.specs.Name.{Name, named}
+use Rattle.info_block.specs.Name.{Name, earliest}
 use Rattle.nitro.specs.Container.{Kind, allKinds, kindOf, stamped, section, Entry, entryIn, entry, EntryRecord, recordOf, entryOf}
 use Rattle.nitro.proofs.ContainerLaws.{taken, stamp-of, stamp-taken, stamp-refused}
 use Rattle.calls.specs.Calls.{Call, check, find, on, Answer, Query, ask, reader, answer}
 use Rattle.calls.specs.Demand3.{On, Demand3}
+use Rattle.calls.proofs.CallsLaws.{find-earliest}
 
 -- what an accepted entry says of its section: the stamp's kind, and the entry read whole behind it
 record Whole (s : List ℕ) (i r : ℕ) : Type 0 where
@@ -84,16 +86,15 @@ module _ (s : List ℕ) (i r : ℕ) (w : Whole s i r) where
         (taken (take 4 s) (w .kind) kd (w .stamp))
 
 -- finding reads the section's header and info block, which every entry of it has read too
-found-within : (s : List ℕ) (i r : ℕ) → Whole s i r → (name : Name) → (j : ℕ) × (is : List ℕ) × (answer (find name) s ≡ accepted j is) × (j ≤ r)
-unfolding answer reader stamped entry run after
+found-within : (s : List ℕ) (i r : ℕ) → Whole s i r → (name : Name) → (j : ℕ) × (o : Option ℕ) × (answer (find name) s ≡ accepted j o) × (j ≤ r)
+unfolding stamped entry run
 found-within s i r w name =
     let b = accepted-first section (entryIn (w .kind) i) s 4 r (w .held) (w .read) in
     let g = grows (entryIn (w .kind) i (b .1)) s (b .0) r (w .held) (b .3) in
     let st : run (stamped allKinds) s 0 ≡ accepted 4 (w .kind) = had _ _ _ _ (w .room) (rw (w .stamp) refl) in (
       b .0,
-      named name 0 (b .1 .names),
-      run-bind-as (stamped allKinds) (λ _. bind section (λ block. done (named name 0 (block .names)))) s 0 (accepted 4 (w .kind)) st
-          ∙ run-bind-as section (λ block. done (named name 0 (block .names))) s 4 (accepted (b .0) (b .1)) (b .2),
+      earliest name (b .1 .names),
+      find-earliest s name (w .kind) st (b .0) (b .1) (b .2),
       g,
     )
 

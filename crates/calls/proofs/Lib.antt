@@ -1,3 +1,4 @@
 pub mod Demand3
+pub mod Finding
 pub mod Samples
 pub mod CallsLaws

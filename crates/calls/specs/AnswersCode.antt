@@ -1,9 +1,12 @@
 -- What the answers of the calls stand for, case by case: document 01's number and values. Assumes nothing.
+use Prim.Native.Nat.{ℕ}
+use mathlib.Core.Option.{Option, none, some}
 use Rattle.util.specs.Reader.{Verdict, answered, denied}
 use Rattle.matrix.specs.declared.Mat4.{Mat4}
 use Rattle.calls.specs.declared.ListAnswer.{ListAnswer}
 use Rattle.calls.specs.declared.ChoiceAnswer.{ChoiceAnswer}
 use Rattle.calls.specs.declared.MatrixAnswer.{MatrixAnswer}
+use Rattle.calls.specs.declared.Found.{Found}
 use Rattle.calls.specs.Calls.{Listed, Chosen}
 
 -- where a list stands, or the number
@@ -20,3 +23,9 @@ choiceAnswerMeans (ChoiceAnswer.Refused n) = denied n
 abbrev pub matrixAnswerMeans : MatrixAnswer → Verdict Mat4
 matrixAnswerMeans (MatrixAnswer.Matrix m) = answered m
 matrixAnswerMeans (MatrixAnswer.Refused n) = denied n
+
+-- an index, none, or the number
+abbrev pub foundMeans : Found → Verdict (Option ℕ)
+foundMeans (Found.At i) = answered (some i)
+foundMeans Found.Nothing = answered none
+foundMeans (Found.Refused n) = denied n

@@ -3,6 +3,7 @@
 -- read nothing. Assumes nothing.
 use Prim.Native.Nat.{ℕ, _+_}
 use mathlib.Core.List.{List, [], _∷_}
+use mathlib.Core.Option.{Option}
 use lib.Dec.{ltb, leb}
 use lib.ListN.{length, getD}
 use lib.Seq.{sets}
@@ -11,7 +12,7 @@ use Rattle.util.specs.Reader.{Reader, done, bind, Outcome, run, Verdict, answer
 use Rattle.matrix.specs.declared.Mat3.{Mat3}
 use Rattle.matrix.specs.declared.Mat4.{Mat4}
 use Rattle.matrix.specs.Matrix.{bytesOf}
-use Rattle.info_block.specs.Name.{Name, named}
+use Rattle.info_block.specs.Name.{Name, earliest}
 use Rattle.curve.specs.Curve.{Curve, none, Recorded, recorded}
 use Rattle.animation.specs.Animation.{Object, stillObject, Triple, axesOf, defaultOf, matrixAt}
 use Rattle.material_animation.specs.MaterialAnimation.{uvMatrixAt}
@@ -132,15 +133,15 @@ pub data Call : Type 0 where
   find : (name : Name) → Call
   on : (kind : Kind) (entry : ℕ) → Query kind → Call
 
--- Finding answers all indexes of entries so named. Which of them the call hands out is free; it hands out none exactly if there is none.
+-- finding answers an index, or none
 abbrev pub Answer : Call → Type 0
 Answer (check i) = EntryRecord
-Answer (find name) = List ℕ
+Answer (find name) = Option ℕ
 Answer (on k i q) = Reply q
 
 unfoldable pub reader : (c : Call) → Reader (Answer c)
 reader (check i) = bind (stamped allKinds) (λ k. bind (entry k i) (λ e. done (recordOf k e)))
-reader (find name) = bind (stamped allKinds) (λ _. bind section (λ block. done (named name 0 (block .names))))
+reader (find name) = bind (stamped allKinds) (λ _. bind section (λ block. done (earliest name (block .names))))
 reader (on k i q) = bind (entryOf k i) (λ e. tell (ask q e))
 
 -- what a call answers on a section: accepted, with the reach and the answer, or refused by number

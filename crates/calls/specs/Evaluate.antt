@@ -7,7 +7,7 @@ use Rattle.util.specs.Reader.{Outcome, ends, run, bind, each, unless}
 use Rattle.util.specs.Place.{within}
 use Rattle.util.specs.Sums.{total}
 use Rattle.util.specs.Fixed.{fixed, ratio}
-use Rattle.info_block.specs.Name.{frontOf, sameBytes, equal, named}
+use Rattle.info_block.specs.Name.{frontOf, sameBytes, equal, earliest}
 use Rattle.info_block.specs.InfoBlock.{infoBlock}
 use Rattle.matrix.specs.Matrix.{product, trs, bytesOf}
 use Rattle.rotation.specs.Rotation.{placed, turned, pivotMat, basisMat}
@@ -20,5 +20,5 @@ use Rattle.gltf.specs.Curve.{domain, isEmpty, union, framesFrom, framesOf, axes
 use Rattle.calls.specs.Calls.{Call, Answer, chosenOf, askObject, askMaterial, askPattern, ask, reader, answer}
 
 unfoldable pub evaluate : (c : Call) → List ℕ → Outcome (Answer c)
-unfolding round neg add sub mul div ofInt toBits little littleBytes view same ends run bind each unless within total fixed ratio frontOf sameBytes equal named infoBlock product trs placed turned pivotMat basisMat floor ceil index mix mixMat between sampleList sampleAt recorded curveWord listFields scalarList scalar axes animatedAxes pivotOf basisOf referred reference rotationList rotation animatedRotation animated object animation axesAt matrixAt channelList channel materialAnimation uvMatrixAt inside track pattern firstLater choice kindOf stamped section entryIn entry domain isEmpty union framesFrom framesOf axesDomain anyEmpty sampleAxes resampleVec3 bytesOf resample chosenOf askObject askMaterial askPattern ask entryOf reader answer
+unfolding round neg add sub mul div ofInt toBits little littleBytes view same ends run bind each unless within total fixed ratio frontOf sameBytes equal earliest infoBlock product trs placed turned pivotMat basisMat floor ceil index mix mixMat between sampleList sampleAt recorded curveWord listFields scalarList scalar axes animatedAxes pivotOf basisOf referred reference rotationList rotation animatedRotation animated object animation axesAt matrixAt channelList channel materialAnimation uvMatrixAt inside track pattern firstLater choice kindOf stamped section entryIn entry domain isEmpty union framesFrom framesOf axesDomain anyEmpty sampleAxes resampleVec3 bytesOf resample chosenOf askObject askMaterial askPattern ask entryOf reader answer
 evaluate c s = answer c s

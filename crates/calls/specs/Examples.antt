@@ -2,6 +2,7 @@
 use Prim.Native.Nat.{ℕ, _+_, _*_}
 use mathlib.Core.Bool.{false}
 use mathlib.Core.List.{List, [], _∷_, _++_}
+use mathlib.Core.Option.{none, some}
 use mathlib.Core.Path.{_≡_, refl}
 use lib.IntN.{negsuc}
 use lib.ListN.{take, replicate}
@@ -181,11 +182,31 @@ leftover =
 
 -- what is looked for ends before its first zero too: wal, a zero and k is wal
 pub by-fronts :
-    (answer (find walkName) leftover ≡ accepted 144 (0 ∷ []))
-    × (answer (find (walkBytes ++ ingBytes ++ u8 0 ++ replicate 8 0xFF)) leftover ≡ accepted 144 (1 ∷ []))
-    × (answer (find (take 3 walkBytes ++ u8 0 ++ u8 0x6B ++ zeros 11)) leftover ≡ accepted 144 [])
-    × (answer (find (zeros 16)) leftover ≡ accepted 144 (2 ∷ []))
-    × (answer (find (replicate 16 0x61)) leftover ≡ accepted 144 (3 ∷ []))
-    × (answer (find (replicate 15 0x61 ++ u8 0)) leftover ≡ accepted 144 (4 ∷ []))
+    (answer (find walkName) leftover ≡ accepted 144 (some 0))
+    × (answer (find (walkBytes ++ ingBytes ++ u8 0 ++ replicate 8 0xFF)) leftover ≡ accepted 144 (some 1))
+    × (answer (find (take 3 walkBytes ++ u8 0 ++ u8 0x6B ++ zeros 11)) leftover ≡ accepted 144 none)
+    × (answer (find (zeros 16)) leftover ≡ accepted 144 (some 2))
+    × (answer (find (replicate 16 0x61)) leftover ≡ accepted 144 (some 3))
+    × (answer (find (replicate 15 0x61 ++ u8 0)) leftover ≡ accepted 144 (some 4))
 unfolding evaluate
 by-fronts = (refl, refl, refl, refl, refl, refl)
+
+-- ---- 10. The earliest of equal names
+
+abbrev turnBytes : List ℕ
+turnBytes = 0x74 ∷ 0x75 ∷ 0x72 ∷ 0x6E ∷ []
+
+-- five entries, none of which stands at its offset, 0: turn with leftovers, walk with leftovers, walk and zeros, turn and zeros, walking
+abbrev oldAndNew : List ℕ
+oldAndNew =
+    stampOf jnt ++ u32 0
+    ++ block 5 4 (zeros 20) (turnBytes ++ u8 0 ++ replicate 11 0xFF ++ walkBytes ++ u8 0 ++ ingBytes ++ zeros 8 ++ walkName ++ turnBytes ++ zeros 12 ++ walkBytes ++ ingBytes ++ zeros 9)
+
+-- the first goes first, though one further on has the same sixteen bytes; refused entries count; the last is found where it alone is so named
+pub the-earliest :
+    (answer (find walkName) oldAndNew ≡ accepted 144 (some 1))
+    × (answer (find (turnBytes ++ zeros 12)) oldAndNew ≡ accepted 144 (some 0))
+    × (answer (find (walkBytes ++ ingBytes ++ zeros 9)) oldAndNew ≡ accepted 144 (some 4))
+    × (answer (check 1) oldAndNew ≡ refused 5)
+unfolding evaluate
+the-earliest = (refl, refl, refl, refl)

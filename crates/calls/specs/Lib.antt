@@ -1,9 +1,9 @@
 pub mod Calls
 pub mod Demand3
+pub mod Finding
 pub mod Samples
 pub mod Evaluate
 pub mod Pinned
 pub mod Examples
 pub mod Slips
 pub mod AnswersCode
-pub mod FindingCode

@@ -27,8 +27,7 @@ ghost use Rattle.nitro.specs.Container.{jnt, srt, pat};
 ghost use Rattle.calls.specs.Calls.{answer, on, ofObject, matrixBytes, curve, rotationCurve, resampled, ofMaterial, uvMatrix, channelCurve, materialName, ofPattern, chosen, textureNames, paletteNames, patternName, bytesAfter};
 ghost use Rattle.calls.specs.Calls as calls;
 ghost use Rattle.listing.specs.Listing.{listing};
-ghost use Rattle.words.specs.WordsCode.{FoundExported};
-ghost use Rattle.words.specs.Words.{Writes, nameWords, checked, recordWords, curveWords, curveFloats, oneFloat, nineFloats, sixteenFloats, listedWords, chosenWords, resampledWords};
+ghost use Rattle.words.specs.Words.{Writes, nameWords, checked, recordWords, curveWords, curveFloats, oneFloat, nineFloats, sixteenFloats, listedWords, chosenWords, resampledWords, foundWords};
 
 // Whether an entry is whole: the number of its check.
 #[no_mangle]
@@ -73,10 +72,10 @@ pub extern "C" fn motion_record(s: &[u8], entry: usize, out: &mut [u64; 5]) -> u
     put_record(check(s, entry), out)
 }
 
-// An entry with this name: 1 and its index, or 0 if there is none.
+// The earliest entry with this name: 1 and its index, or 0 if there is none.
 #[no_mangle]
 pub extern "C" fn motion_find(s: &[u8], name: &[u8; 16], out: &mut [u64; 2]) -> u32
-    ensures { λ r. ⌜ FoundExported (answer (calls.find (now (name .entry))) (now (s .entry))) r (now (out .entry)) (now (out .exit)) ⌝ }
+    ensures { λ r. ⌜ Writes foundWords (told (answer (calls.find (now (name .entry))) (now (s .entry)))) r (now (out .entry)) (now (out .exit)) ⌝ }
 {
     put_found(find(s, name), out)
 }

@@ -1,22 +1,47 @@
 -- The info block's run, by what the section holds. Assumes nothing.
 use Prim.Native.Nat.{ℕ, _+_, _*_, max, _≤_, _<_}
 use mathlib.Core.List.{List}
-use mathlib.Core.Path.{_≡_, refl}
+use mathlib.Core.Path.{_≡_, refl, sym, ap, subst, _∙_}
 use native.Mathlib.Nat.{mul-le-mul}
 use native.Mathlib.Omega.{arith}
 use borrow.Author.Tests.{eq-eqb, ne-eqb}
 use lib.ListN.{length, drop}
 use Rattle.util.specs.View.{wordAt}
 use Rattle.util.specs.Reader.{accepted, refused, run, bind, unless}
-use Rattle.util.proofs.Cut.{had, past, short, over, to}
-use Rattle.util.proofs.ViewLaws.{view-take}
+use Rattle.util.proofs.Cut.{had, had-part, past, short, over, to}
+use Rattle.util.proofs.ViewLaws.{view-take, view-length}
+use Rattle.util.proofs.Calls.{accepted-first}
+use Rattle.util.proofs.ReadsLaws.{done-is}
 use Rattle.info_block.specs.declared.InfoBlock.{InfoBlock}
-use Rattle.info_block.specs.InfoBlock.{infoBlock}
+use Rattle.info_block.specs.InfoBlock.{Block, infoBlock}
 use Rattle.info_block.specs.InfoBlockCode.{blockAt}
 
 -- a product of what is at most 64 and a byte
 pub few : (a b : ℕ) → a ≤ 64 → b ≤ 255 → a * b ≤ 64 * 255
 few a b h l = mul-le-mul h l
+
+-- there is a name for each datum: the parts one by one, of which the second is the count and the last the names
+pub names-counted : (p size : ℕ) (s : List ℕ) (m j : ℕ) (b : Block) → run (infoBlock p size) s m ≡ accepted j b → length (b .names) ≡ b .count
+unfolding run infoBlock
+names-counted p size s m j b h =
+    let w = accepted-first _ _ s m j b h in
+    let w = accepted-first _ _ s _ j b (w .3) in
+    let count : ℕ = w .1 in
+    let w = accepted-first _ _ s _ j b (w .3) in
+    let w = accepted-first _ _ s _ j b (w .3) in
+    let w = accepted-first _ _ s _ j b (w .3) in
+    let w = accepted-first _ _ s _ j b (w .3) in
+    let w = accepted-first _ _ s _ j b (w .3) in
+    let w = accepted-first _ _ s _ j b (w .3) in
+    let w = accepted-first _ _ s _ j b (w .3) in
+    let w = accepted-first _ _ s _ j b (w .3) in
+    let names = accepted-first _ _ s _ j b (w .3) in
+    let w = accepted-first _ _ s _ j b (names .3) in
+    let w = accepted-first _ _ s _ j b (w .3) in
+    let q = done-is _ s _ j b (w .3) in
+    let v = done-is _ s _ _ _ (had-part _ _ _ _ _ (names .2) .1) in
+    let l : length (names .1) ≡ count = ap length (sym v) ∙ view-length 16 (λ bs. bs) count _ in
+    subst (λ (x : Block). length (x .names) ≡ x .count) q l
 
 module _ (p size : ℕ) (s : List ℕ) (reach : ℕ) where
   -- where the lists stand, for a count

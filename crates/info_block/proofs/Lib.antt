@@ -1,5 +1,6 @@
 pub mod InfoBlockLaws
 pub mod EqualLaws
+pub mod EarliestLaws
 pub mod NameLaws
 pub mod BytesLaws
 pub mod NumberLaws

@@ -1,22 +1,25 @@
 -- Names handed out, compared and found. Assumes nothing.
 use Prim.Native.Nat.{ℕ, suc, _+_, _*_, _^_, _≤_, _<_}
-use mathlib.Core.Bool.{Bool, true, false, cond}
+use mathlib.Core.Bool.{Bool, true, false, false≢true}
 use mathlib.Core.List.{List, [], _∷_}
-use mathlib.Core.Logic.{inl}
-use mathlib.Core.Path.{_≡_, refl, sym, ap, subst, _∙_}
+use mathlib.Core.Logic.{⊎-elim}
+use mathlib.Core.Option.{none, some}
+use mathlib.Core.Path.{_≡_, refl, sym, ap, _∙_}
 use native.Mathlib.Numerals.{add-one}
 use native.Mathlib.Omega.{arith}
 use borrow.Author.Tests.{lt-ltb, le-ltb}
 use lib.ListN.{length, take, drop, getD, length-take, drop-of-length-le}
-use lib.Seq.{drop-cons, drop-drop, getD-take, getD-drop, take-add, take-at, drop-at}
+use lib.Seq.{drop-drop, getD-take, getD-drop, take-add, take-at, drop-at}
 use Rattle.util.specs.View.{little, littleBytes, wordAt, view}
 use Rattle.util.specs.Reader.{answered, denied}
 use Rattle.util.proofs.All.{Bytes, word-bytes}
+use Rattle.util.proofs.Cut.{le-or-lt}
 use Rattle.util.proofs.ViewLaws.{length-little, little-little, view-length, view-there}
 use Rattle.info_block.specs.declared.InfoBlock.{InfoBlock}
 use Rattle.info_block.specs.declared.name.Name.{Name as CodeName}
-use Rattle.info_block.specs.Name.{Name, equal, named, nameAmong}
-use Rattle.info_block.specs.NameCode.{nameMeans, OneOf}
+use Rattle.info_block.specs.Name.{Name, equal, earliest, nameAmong}
+use Rattle.info_block.specs.NameCode.{nameMeans}
+use Rattle.info_block.proofs.EarliestLaws.{NoneBelow, earliest-name}
 use Rattle.info_block.proofs.EqualLaws.{equal-names, equal-differ, equal-ends, equal-goes-on, equal-from}
 
 -- ---- a name's two words
@@ -39,14 +42,26 @@ names-apart a b al ah bl bh e = λ i. record { lo = word (a .lo) (b .lo) al bl f
     second : littleBytes 8 (a .hi) ≡ littleBytes 8 (b .hi)
     second = sym (drop-at (littleBytes 8 (a .lo)) _ 8 (length-little 8 (a .lo))) ∙ (ap (drop 8) e ∙ drop-at (littleBytes 8 (b .lo)) _ 8 (length-little 8 (b .lo)))
 
+-- ---- names that stand one after the other
+
+module _ (s : List ℕ) (names count : ℕ) where
+  abbrev pub all : List Name
+  all = view 16 (λ bs. bs) count (drop names s)
+
+  all-length : length all ≡ count
+  all-length = view-length 16 (λ bs. bs) count (drop names s)
+
+  name-at : (i : ℕ) → i < count → getD all i [] ≡ take 16 (drop (names + 16 * i) s)
+  name-at i h = view-there 16 (λ bs. bs) count i names s [] h
+
 -- ---- the names of an entry's info block
 
 module _ (s : List ℕ) (off : ℕ) (b : InfoBlock) (i : ℕ) where
   abbrev names : List Name
-  names = view 16 (λ bs. bs) (b .count) (drop (b .names) (drop off s))
+  names = all (drop off s) (b .names) (b .count)
 
   names-length : length names ≡ b .count
-  names-length = view-length 16 (λ bs. bs) (b .count) (drop (b .names) (drop off s))
+  names-length = all-length (drop off s) (b .names) (b .count)
 
   pub name-past : b .count ≤ i → denied 9 ≡ nameAmong names i
   name-past h = let l : length names ≤ i = rw names-length h in rw (le-ltb i (length names) l) refl
@@ -54,7 +69,7 @@ module _ (s : List ℕ) (off : ℕ) (b : InfoBlock) (i : ℕ) where
   pub name-there : i < b .count → (n : Name) → n ≡ take 16 (drop (off + (b .names + 16 * i)) s) → answered n ≡ nameAmong names i
   name-there h n e =
       let l : i < length names = rw names-length h in
-      rw (lt-ltb i (length names) l, view-there 16 (λ bs. bs) (b .count) i (b .names) (drop off s) [] h, drop-drop (b .names + 16 * i) off s) (ap answered e)
+      rw (lt-ltb i (length names) l, name-at (drop off s) (b .names) (b .count) i h, drop-drop (b .names + 16 * i) off s) (ap answered e)
 
 -- ---- a name and the one at p, from byte k on
 
@@ -85,32 +100,22 @@ module _ (a s : List ℕ) (p : ℕ) where
       let m : length (take 16 (drop p s)) ≤ k = omega (arith, length-take 16 (drop p s)) in
       rw (drop-of-length-le a n, drop-of-length-le (take 16 (drop p s)) m) (equal-names .reflexive [])
 
--- ---- a name among names
+-- ---- a name among names: what is known once those below i are looked at
 
-module _ (name : Name) (s : List ℕ) (names count : ℕ) where
-  abbrev pub all : List Name
-  all = view 16 (λ bs. bs) count (drop names s)
+module _ (s : List ℕ) (names count : ℕ) (name : Name) (i : ℕ) (w : NoneBelow name (all s names count) i) where
+  module _ (h : i < count) (b : Bool) (e : b ≡ equal name (take 16 (drop (names + 16 * i) s))) where
+    is-it : b ≡ equal name (getD (all s names count) i [])
+    is-it = e ∙ ap (equal name) (sym (name-at s names count i h))
 
-  -- what is left from index i on
-  abbrev pub left : ℕ → List ℕ
-  left i = named name i (drop i all)
+    pub found-here : b ≡ true → some i ≡ earliest name (all s names count)
+    found-here q = sym (earliest-name .found name (all s names count) i .1 ((rw (all-length s names count) h, sym is-it ∙ q), w))
 
-  module _ (i : ℕ) (h : i < count) (b : Bool) (e : b ≡ equal name (take 16 (drop (names + 16 * i) s))) where
-    unroll : left i ≡ cond b (i ∷ left (i + 1)) (left (i + 1))
-    unfolding named
-    unroll =
-        let l : i < length all = subst (λ (n : ℕ). i < n) (sym (view-length 16 (λ bs. bs) count (drop names s))) h in
-        rw (drop-cons all i [] l, view-there 16 (λ bs. bs) count i names s [] h, sym e, add-one i) refl
+    pub not-here : b ≡ false → NoneBelow name (all s names count) (i + 1)
+    not-here q j l n =
+        ⊎-elim
+        (λ (k : i ≤ j). let e : i ≡ j = omega arith in false≢true (sym q ∙ (is-it ∙ (ap (λ (x : ℕ). equal name (getD (all s names count) x [])) e ∙ n .1))))
+        (λ (k : j < i). w j k n)
+        (le-or-lt i j)
 
-    pub found-here : b ≡ true → left i ≡ i ∷ left (i + 1)
-    found-here q = unroll ∙ ap (λ (x : Bool). cond x (i ∷ left (i + 1)) (left (i + 1))) q
-
-    pub not-here : b ≡ false → left i ≡ left (i + 1)
-    not-here q = unroll ∙ ap (λ (x : Bool). cond x (i ∷ left (i + 1)) (left (i + 1))) q
-
-  pub none-left : (i : ℕ) → count ≤ i → left i ≡ []
-  unfolding named
-  none-left i h = let l : length all ≤ i = subst (λ (n : ℕ). n ≤ i) (sym (view-length 16 (λ bs. bs) count (drop names s))) h in rw (drop-of-length-le all l) refl
-
-pub one-of-head : (j : ℕ) (is rest : List ℕ) → is ≡ j ∷ rest → OneOf j is
-one-of-head j is rest e = subst (OneOf j) (sym e) (inl refl)
+  pub found-nowhere : count ≤ i → none ≡ earliest name (all s names count)
+  found-nowhere h = sym (earliest-name .nothing name (all s names count) .1 (λ j n. w j (omega (arith, all-length s names count, n .0)) n))

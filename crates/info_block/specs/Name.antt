@@ -1,7 +1,9 @@
 -- Names: sixteen bytes. Assumes nothing.
-use Prim.Native.Nat.{ℕ, suc}
+use Prim.Native.Nat.{ℕ, suc, _<_}
 use mathlib.Core.Bool.{Bool, true, false, cond, _&&_}
 use mathlib.Core.List.{List, [], _∷_, _++_}
+use mathlib.Core.Logic.{_↔_}
+use mathlib.Core.Option.{Option, none, some, Option·map}
 use mathlib.Core.Path.{_≡_}
 use lib.Dec.{ltb, eqb}
 use lib.ListN.{length, getD}
@@ -40,10 +42,25 @@ pub record EqualNames : Type 0 where
   -- an empty name, one that begins with a zero, equals exactly those that do
   pub empty : (r : List ℕ) (x : ℕ) (b : List ℕ) → equal (0 ∷ r) (x ∷ b) ≡ eqb x 0
 
--- which of some names equal a given one: their indexes, the first name having index i
-unfoldable pub named : Name → ℕ → List Name → List ℕ
-named name i [] = []
-named name i (x ∷ xs) = cond (equal name x) (i ∷ named name (suc i) xs) (named name (suc i) xs)
+-- the index of the earliest of some names that equals a given one, or none
+unfoldable pub earliest : Name → List Name → Option ℕ
+earliest name [] = none
+earliest name (x ∷ xs) = cond (equal name x) (some 0) (Option·map suc (earliest name xs))
+
+-- name i of some names equals a given one
+abbrev pub Named : Name → List Name → ℕ → Type 0
+Named name names i = (i < length names) × (equal name (getD names i []) ≡ true)
+
+-- .. and none of a lower index does
+abbrev pub Lowest : Name → List Name → ℕ → Type 0
+Lowest name names i = Named name names i × ((j : ℕ) → j < i → Named name names j → ⊥)
+
+-- What is promised of the earliest. Proved in proofs/EarliestLaws.antt.
+pub record EarliestName : Type 0 where
+  -- an index is answered exactly if it is the lowest of an equal name
+  pub found : (name : Name) (names : List Name) (i : ℕ) → (earliest name names ≡ some i) ↔ Lowest name names i
+  -- none is answered exactly if no name is equal
+  pub nothing : (name : Name) (names : List Name) → (earliest name names ≡ none) ↔ ((i : ℕ) → Named name names i → ⊥)
 
 -- name i of some names; 9 past the list
 abbrev pub nameAmong : List Name → ℕ → Verdict Name

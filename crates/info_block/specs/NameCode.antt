@@ -1,8 +1,7 @@
 -- What the code of name.rt answers. Assumes nothing.
 use Prim.Native.Nat.{ℕ}
-use mathlib.Core.List.{List, [], _∷_, _++_}
-use mathlib.Core.Logic.{_⊎_}
-use mathlib.Core.Path.{_≡_}
+use mathlib.Core.List.{_++_}
+use mathlib.Core.Option.{Option, none, some}
 use Rattle.util.specs.View.{littleBytes}
 use Rattle.util.specs.Reader.{Verdict, answered, denied}
 use Rattle.info_block.specs.declared.name.Name.{Name as CodeName}
@@ -20,12 +19,7 @@ abbrev pub nameAnswerMeans : NameAnswer → Verdict Name
 nameAnswerMeans (NameAnswer.Name n) = answered (nameMeans n)
 nameAnswerMeans (NameAnswer.Refused n) = denied n
 
--- j is one of some indexes
-abbrev pub OneOf : ℕ → List ℕ → Type 0
-OneOf j [] = ⊥
-OneOf j (i ∷ is) = (j ≡ i) ⊎ OneOf j is
-
--- one of the indexes, whichever; none exactly if there is none
-abbrev pub FoundIn : List ℕ → NameFound → Type 0
-FoundIn is (At j) = OneOf j is
-FoundIn is Nothing = is ≡ []
+-- an index, or none
+abbrev pub nameFoundMeans : NameFound → Option ℕ
+nameFoundMeans (At i) = some i
+nameFoundMeans Nothing = none

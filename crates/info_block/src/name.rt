@@ -5,8 +5,8 @@ ghost use mathlib.Core.Path.{_≡_};
 ghost use Prim.Native.Nat.{_+_, _*_, _≤_};
 ghost use lib.ListN.{length, take, drop};
 ghost use Rattle.util.specs.View.{view};
-ghost use Rattle.info_block.specs.Name.{equal, named, nameAmong};
-ghost use Rattle.info_block.specs.NameCode.{nameMeans, nameAnswerMeans, FoundIn};
+ghost use Rattle.info_block.specs.Name.{equal, earliest, nameAmong};
+ghost use Rattle.info_block.specs.NameCode.{nameMeans, nameAnswerMeans, nameFoundMeans};
 
 // A name's sixteen bytes: the first eight and the last eight, as little-endian words.
 pub struct Name {
@@ -67,10 +67,10 @@ pub enum NameFound {
     Nothing,
 }
 
-// The index of a name among the names that stand at `names`.
+// The index of the earliest of the names that stand at `names` that is this one.
 pub fn find_name(s: &[u8], names: usize, count: usize, name: &[u8; 16]) -> NameFound
     requires { ⌜ names + 16 * count ≤ length (now s) ⌝ }
-    ensures { λ r. ⌜ FoundIn (named (now (name .entry)) 0 (view 16 (λ bs. bs) count (drop names (now (s .entry))))) r ⌝ }
+    ensures { λ r. ⌜ nameFoundMeans r ≡ earliest (now (name .entry)) (view 16 (λ bs. bs) count (drop names (now (s .entry)))) ⌝ }
 {
     let mut i = 0usize;
     while i < count {

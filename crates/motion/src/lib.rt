@@ -10,10 +10,11 @@ use nitro::container::read_stamp;
 use nitro::entry::EntryCheck;
 use nitro::entry::check_entry;
 ghost use mathlib.Core.Path.{_≡_};
+ghost use Rattle.util.specs.Reader.{told};
 ghost use Rattle.nitro.specs.EntryCode.{checkMeans};
 ghost use Rattle.calls.specs.Calls.{answer};
 ghost use Rattle.calls.specs.Calls as calls;
-ghost use Rattle.calls.specs.FindingCode.{Finds};
+ghost use Rattle.calls.specs.AnswersCode.{foundMeans};
 
 // The entry check: the number, or the record.
 pub fn check(s: &[u8], entry: usize) -> EntryCheck
@@ -25,9 +26,9 @@ pub fn check(s: &[u8], entry: usize) -> EntryCheck
     }
 }
 
-// An entry with this name: its index. Which of several is free; none is answered exactly if there is none.
+// The index of the earliest entry with this name, or none if there is no such entry.
 pub fn find(s: &[u8], name: &[u8; 16]) -> Found
-    ensures { λ r. ⌜ Finds (answer (calls.find (now (name .entry))) (now (s .entry))) r ⌝ }
+    ensures { λ r. ⌜ foundMeans r ≡ told (answer (calls.find (now (name .entry))) (now (s .entry))) ⌝ }
 {
     match read_stamp(s) {
         StampRead::Refused(n) => Found::Refused(n),

@@ -21,8 +21,9 @@ use Rattle.info_block.specs.declared.BlockRead.{BlockRead}
 use Rattle.animation.specs.Animation.{animation}
 use Rattle.material_animation.specs.MaterialAnimation.{materialAnimation}
 use Rattle.pattern.specs.Pattern.{pattern}
-use Rattle.info_block.specs.InfoBlock.{infoBlock}
+use Rattle.info_block.specs.InfoBlock.{Block, infoBlock}
 use Rattle.info_block.specs.InfoBlockCode.{blockAt}
+use Rattle.info_block.proofs.InfoBlockLaws.{names-counted}
 use Rattle.nitro.specs.Container.{Kind, jnt, srt, pat, stampOf, allKinds, kindOf, stamped, section, Value, value, Entry, entryIn, entry}
 use Rattle.nitro.specs.declared.container.EntryFound.{EntryFound}
 use Rattle.nitro.specs.ContainerCode.{HeaderReads, entryFrom, EntryReads}
@@ -160,6 +161,19 @@ held-read k s i m j e h =
     let q = done-is _ s (d .0) j e (d .3) in
     let w = lowered (c .0) off (run (value k) (drop off s) 0) (d .0) (d .1) (sym (value-within k off s (c .0)) ∙ d .2) in
     (w .0, ap (λ (x : Entry k). run (value k) (drop (x .offset) s) 0) (sym q) ∙ (w .1 ∙ ap (λ (x : Entry k). accepted (w .0) (x .held)) q))
+
+-- .. and the name that stands at its index
+pub name-read : (k : Kind) (s : List ℕ) (i m j r : ℕ) (e : Entry k) (b : Block) → run section s m ≡ accepted r b → run (entry k i) s m ≡ accepted j e → e .name ≡ getD (b .names) i []
+unfolding entry entryIn
+name-read k s i m j r e b q h =
+    let c = accepted-first (unless (ltb i (b .count)) 9) _ s r j e (sym (goes-on section (entryIn k i) s m r b q) ∙ h) in
+    let d = accepted-first _ _ s (c .0) j e (c .3) in
+    ap (λ (x : Entry k). x .name) (sym (done-is _ s (d .0) j e (d .3)))
+
+-- a section has a name for each entry
+pub section-counted : (s : List ℕ) (m j : ℕ) (b : Block) → run section s m ≡ accepted j b → length (b .names) ≡ b .count
+unfolding section
+section-counted s m j b h = let w = accepted-first _ _ s m j b h in names-counted 8 4 s (w .0) j b (w .3)
 
 -- ---- what the code of container.rt finds
 

@@ -1,6 +1,7 @@
 -- What the calls for C answer and write: the number, 0 where a call accepts, and the words or floats of its answer. Assumes nothing.
 use Prim.Native.Nat.{ℕ}
 use mathlib.Core.List.{List, [], _∷_}
+use mathlib.Core.Option.{Option, none, some}
 use mathlib.Core.Path.{_≡_}
 use lib.Ieee.{Float}
 use lib.Seq.{sets}
@@ -80,6 +81,6 @@ abbrev pub resampledWords : Resampled → List ℕ
 resampledWords r = spanWords (r .over) (r .frames)
 
 -- whether an entry was found, and its index
-abbrev pub foundWords : List ℕ → List ℕ
-foundWords [] = 0 ∷ []
-foundWords (i ∷ is) = 1 ∷ i ∷ []
+abbrev pub foundWords : Option ℕ → List ℕ
+foundWords none = 0 ∷ []
+foundWords (some i) = 1 ∷ i ∷ []

@@ -22,8 +22,7 @@ ghost use Rattle.info_block.specs.NameCode.{nameAnswerMeans};
 ghost use Rattle.trs.specs.TrsCode.{curveMeans, rotationRecordMeans, rotationAnswerMeans};
 ghost use Rattle.nitro.specs.EntryCode.{checkMeans};
 ghost use Rattle.gltf.specs.CurveCode.{resamplingMeans};
-ghost use Rattle.calls.specs.FindingCode.{foundMeans};
-ghost use Rattle.calls.specs.AnswersCode.{listAnswerMeans, choiceAnswerMeans, matrixAnswerMeans};
+ghost use Rattle.calls.specs.AnswersCode.{listAnswerMeans, choiceAnswerMeans, matrixAnswerMeans, foundMeans};
 ghost use Rattle.words.specs.Words.{Writes, nameWords, checked, recordWords, curveWords, curveFloats, oneFloat, nineFloats, sixteenFloats, listedWords, chosenWords, resampledWords, foundWords};
 
 // The record of an entry.

@@ -101,20 +101,12 @@ fn sought(name: &[u8; 16]) -> Vec<[u8; 16]> {
     names
 }
 
-/// An entry whose name has the same front, or none where there is none.
-fn found(s: &[u8], read: &[Entry], name: &[u8; 16]) -> Agreed {
-    let equal = |e: &Entry| layout::front(&e.name) == layout::front(name);
-    match motion::find(s, name) {
-        Ok(Some(i)) if read.get(i).is_some_and(equal) => Ok(()),
-        Ok(None) if !read.iter().any(equal) => Ok(()),
-        other => Err(format!("finding {name:?} gives {other:?}")),
-    }
-}
-
+/// The first entry whose name has the same front, or none where there is none.
 fn finding(s: &[u8], read: &[Entry], counts: &mut Counts) -> Agreed {
     let there = read.iter().flat_map(|e| sought(&e.name));
     for name in there.chain([*b"no entry's name!"]) {
-        found(s, read, &name)?;
+        let first = read.iter().position(|e| layout::front(&e.name) == layout::front(&name));
+        agree!(motion::find(s, &name), Ok(first), "finding {name:?}");
         counts.names += 1;
     }
     Ok(())

@@ -141,8 +141,8 @@ fn main() {
             }
         }
     }
-    // names that end at each place
-    for s in sections::named() {
+    // names that end at each place, and equal ones
+    for s in [sections::named(), sections::equally_named()].concat() {
         run.section("names", &s);
         run.cuts(&s);
     }

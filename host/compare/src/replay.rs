@@ -309,6 +309,12 @@ pub fn stored(sections: usize) -> (Vec<u8>, String) {
         let calls = there.chain(missing).map(|name| Call { name, ..call(&s, FIND, rng) }).collect();
         kept.push((s, calls));
     }
+    // equal names: those that stand there, the first of them with other bytes behind it, and one that does not stand there
+    for s in sections::equally_named() {
+        let names = [(4, 0xee), (4, 0), (4, 1), (5, 0xee), (3, 0xee)].map(|(letters, leftovers)| sections::ended(letters, leftovers));
+        let calls = names.into_iter().map(|name| Call { name, ..call(&s, FIND, rng) }).collect();
+        kept.push((s, calls));
+    }
     let count: usize = kept.iter().map(|(_, calls)| calls.len()).sum();
     let (mut list, mut behind, mut lines) = ((count as u16).to_le_bytes().to_vec(), Vec::new(), String::new());
     for (s, calls) in kept {

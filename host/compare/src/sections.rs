@@ -379,19 +379,38 @@ pub fn ended(letters: usize, leftovers: u8) -> [u8; 16] {
     name
 }
 
-/// Sections of each stamp whose names end at each of the sixteen places, or have sixteen bytes: the shortest first, the longest first, and each
-/// of them twice. Their entries stand past the end.
-pub fn named() -> Vec<Vec<u8>> {
-    let rising: Vec<_> = (0..=16).map(|n| ended(n, b'q')).collect();
-    let falling: Vec<_> = (0..=16).rev().map(|n| ended(n, 0xff)).collect();
-    let twice = [&rising[..], &falling].concat();
+/// A section of each stamp in turn for each list of names. Its entries stand past the end.
+fn with_names<const N: usize>(lists: [Vec<[u8; 16]>; N]) -> Vec<Vec<u8>> {
     let mut found = Vec::new();
-    for (stamp, names) in [b"JNT0", b"SRT0", b"PAT0"].into_iter().zip([rising, falling, twice]) {
+    for (stamp, names) in [b"JNT0", b"SRT0", b"PAT0"].into_iter().cycle().zip(lists) {
         let mut s = [&stamp[..], &[0; 4]].concat();
         info_block(&mut s, 4, &vec![vec![0xff; 4]; names.len()], &names);
         found.push(s);
     }
     found
+}
+
+/// Names that end at each of the sixteen places, or have sixteen bytes: the shortest first, the longest first, and each of them twice.
+pub fn named() -> Vec<Vec<u8>> {
+    let rising: Vec<_> = (0..=16).map(|n| ended(n, b'q')).collect();
+    let falling: Vec<_> = (0..=16).rev().map(|n| ended(n, 0xff)).collect();
+    let twice = [&rising[..], &falling].concat();
+    with_names([rising, falling, twice])
+}
+
+/// Names that are equal by their fronts alone, two, three and 255 of them: by themselves, and the first two among other names. And one behind 254
+/// others.
+pub fn equally_named() -> Vec<Vec<u8>> {
+    let turn = |leftovers| ended(4, leftovers);
+    let other = |leftovers| ended(5, leftovers);
+    with_names([
+        vec![turn(0), turn(1)],
+        vec![other(0), turn(2), other(1), turn(0)],
+        vec![turn(0), turn(1), turn(2)],
+        vec![other(0), turn(3), turn(2), other(1), turn(1)],
+        (0..255).map(turn).collect(),
+        (0..254).map(other).chain([turn(0)]).collect(),
+    ])
 }
 
 /// A section with a word of two or four bytes at `at` in the place of what stood there: the extremes, and positions around its end.

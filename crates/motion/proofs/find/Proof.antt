@@ -1,12 +1,11 @@
 -- `motion::find` meets its contract. Assumes nothing.
-use mathlib.Core.Path.{ap, subst, _∙_}
+use mathlib.Core.Path.{sym, ap, _∙_}
 use native.Mathlib.Omega.{arith}
-use Rattle.info_block.specs.InfoBlockCode.{blockAt}
-use Rattle.info_block.specs.Name.{named}
+use Rattle.util.specs.Reader.{answered, told}
 use Rattle.nitro.specs.ContainerCode.{kindMeans, stampMeans}
-use Rattle.info_block.specs.NameCode.{FoundIn}
+use Rattle.info_block.specs.NameCode.{nameFoundMeans}
 use Rattle.nitro.proofs.ContainerLaws.{stamp-of}
-use Rattle.calls.proofs.CallsLaws.{find-unstamped, find-headless, find-named, found-no, found-yes, found-none}
+use Rattle.calls.proofs.CallsLaws.{find-unstamped, find-headless, find-earliest}
 use Rattle.util.proofs.ReadsLaws.{known}
 use borrow.Author.Needs.{needs}
 use Rattle.motion.proofs.find.Statement.{statement}
@@ -31,7 +30,7 @@ returns : tie.Need-returns
 returns c =
     let j = c .before in
     let a = j .before .before .before .before .args in
-    found-no (a .name .now) (a .s .now) _ (find-unstamped (a .s .now) (a .name .now) _ (j .before .before .read-stamp .ensures ∙ ap stampMeans (j .n .given .1)))
+    sym (ap told (find-unstamped (a .s .now) (a .name .now) _ (j .before .before .read-stamp .ensures ∙ ap stampMeans (j .n .given .1))))
 
 returns-2 : tie.Need-returns-2
 returns-2 c =
@@ -39,7 +38,7 @@ returns-2 c =
     let j = k .before .before .before .before in
     let a = j .before .before .before .before .args in
     let e = j .before .before .read-stamp .ensures ∙ ap stampMeans (j .kind .given .1) in
-    found-no (a .name .now) (a .s .now) _ (find-headless (a .s .now) (a .name .now) (kindMeans (j .kind .given .0 .0)) e _ (known (k .n2 .given .1) (k .before .before .read-section .ensures) .reads))
+    sym (ap told (find-headless (a .s .now) (a .name .now) (kindMeans (j .kind .given .0 .0)) e _ (known (k .n2 .given .1) (k .before .before .read-section .ensures) .reads)))
 
 returns-3 : tie.Need-returns-3
 returns-3 c =
@@ -49,8 +48,8 @@ returns-3 c =
     let a = j .before .before .before .before .args in
     let e = j .before .before .read-stamp .ensures ∙ ap stampMeans (j .kind .given .1) in
     let w = known (k .b .given .1) (k .before .before .read-section .ensures) in
-    let f = find-named (a .s .now) (a .name .now) (kindMeans (j .kind .given .0 .0)) e _ _ (w .reads) in
-    found-yes (a .name .now) (a .s .now) _ _ f _ (subst (FoundIn (named (a .name .now) 0 (blockAt (a .s .now) 4 (k .b .given .0 .0) .names))) (l .i .given .1) (l .before .before .find-name .ensures))
+    let f = find-earliest (a .s .now) (a .name .now) (kindMeans (j .kind .given .0 .0)) e _ _ (w .reads) in
+    ap answered (ap nameFoundMeans (sym (l .i .given .1)) ∙ l .before .before .find-name .ensures) ∙ sym (ap told f)
 
 returns-4 : tie.Need-returns-4
 returns-4 c =
@@ -60,8 +59,8 @@ returns-4 c =
     let a = j .before .before .before .before .args in
     let e = j .before .before .read-stamp .ensures ∙ ap stampMeans (j .kind .given .1) in
     let w = known (k .b .given .1) (k .before .before .read-section .ensures) in
-    let f = find-named (a .s .now) (a .name .now) (kindMeans (j .kind .given .0 .0)) e _ _ (w .reads) in
-    found-none (a .name .now) (a .s .now) _ _ f (subst (FoundIn (named (a .name .now) 0 (blockAt (a .s .now) 4 (k .b .given .0 .0) .names))) (l .enum-told .given .1) (l .before .before .find-name .ensures))
+    let f = find-earliest (a .s .now) (a .name .now) (kindMeans (j .kind .given .0 .0)) e _ _ (w .reads) in
+    ap answered (ap nameFoundMeans (sym (l .enum-told .given .1)) ∙ l .before .before .find-name .ensures) ∙ sym (ap told f)
 
 pub find-spec : {M : Type 1} → statement M
 find-spec =
