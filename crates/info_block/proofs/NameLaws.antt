@@ -60,15 +60,12 @@ module _ (s : List ℕ) (off : ℕ) (b : InfoBlock) (i : ℕ) where
   abbrev names : List Name
   names = all (drop off s) (b .names) (b .count)
 
-  names-length : length names ≡ b .count
-  names-length = all-length (drop off s) (b .names) (b .count)
-
   pub name-past : b .count ≤ i → denied 9 ≡ nameAmong names i
-  name-past h = let l : length names ≤ i = rw names-length h in rw (le-ltb i (length names) l) refl
+  name-past h = let l : length names ≤ i = rw (all-length (drop off s) (b .names) (b .count)) h in rw (le-ltb i (length names) l) refl
 
   pub name-there : i < b .count → (n : Name) → n ≡ take 16 (drop (off + (b .names + 16 * i)) s) → answered n ≡ nameAmong names i
   name-there h n e =
-      let l : i < length names = rw names-length h in
+      let l : i < length names = rw (all-length (drop off s) (b .names) (b .count)) h in
       rw (lt-ltb i (length names) l, name-at (drop off s) (b .names) (b .count) i h, drop-drop (b .names + 16 * i) off s) (ap answered e)
 
 -- ---- a name and the one at p, from byte k on

@@ -67,7 +67,7 @@ pub enum NameFound {
     Nothing,
 }
 
-// The index of the earliest of the names that stand at `names` that is this one.
+// The index of the earliest name that equals this one, among those that stand at `names`.
 pub fn find_name(s: &[u8], names: usize, count: usize, name: &[u8; 16]) -> NameFound
     requires { ⌜ names + 16 * count ≤ length (now s) ⌝ }
     ensures { λ r. ⌜ nameFoundMeans r ≡ earliest (now (name .entry)) (view 16 (λ bs. bs) count (drop names (now (s .entry)))) ⌝ }

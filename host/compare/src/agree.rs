@@ -106,7 +106,10 @@ fn finding(s: &[u8], read: &[Entry], counts: &mut Counts) -> Agreed {
     let there = read.iter().flat_map(|e| sought(&e.name));
     for name in there.chain([*b"no entry's name!"]) {
         let first = read.iter().position(|e| layout::front(&e.name) == layout::front(&name));
-        agree!(motion::find(s, &name), Ok(first), "finding {name:?}");
+        let found = motion::find(s, &name);
+        if found != Ok(first) {
+            return Err(format!("finding {name:?} gives {found:?}, and the first entry with its front is {first:?}"));
+        }
         counts.names += 1;
     }
     Ok(())

@@ -398,8 +398,7 @@ pub fn named() -> Vec<Vec<u8>> {
     with_names([rising, falling, twice])
 }
 
-/// Names that are equal by their fronts alone, two, three and 255 of them: by themselves, and the first two among other names. And one behind 254
-/// others.
+/// Names that are equal by their fronts alone: two, three and 255 by themselves, two and three among others, and one behind 254 others.
 pub fn equally_named() -> Vec<Vec<u8>> {
     let turn = |leftovers| ended(4, leftovers);
     let other = |leftovers| ended(5, leftovers);
