@@ -93,7 +93,3 @@ module _ (start end frame n : ℕ) (h : start < frame) (k : frame + 1 < end) (E 
 
   pub lo-small : floor (index start end frame n) ≤ 2 ^ 53
   lo-small = let c = floor-le (index start end frame n) (n - 1) index-upto in omega arith
-
--- a difference that is taken modulo 2^64 and does not wrap
-pub unwrapped : (r start frame : ℕ) → r < 2 ^ 64 → start < frame → frame < 65536 → (r + start) % 2 ^ 64 ≡ frame → r ≡ frame - start
-unwrapped r start frame h g f e = omega arith

@@ -1,7 +1,6 @@
 // Curves as they stand in a section, and a curve's value between two of its values.
 use matrix::Col3;
 use matrix::Mat3;
-use std::num::wrapping_sub_u64;
 use util::fixed::Fix1_3_12;
 use util::fixed::Fix1_10_5;
 use util::fixed::Fix1_19_12;
@@ -94,9 +93,9 @@ pub fn locate(start: u16, end: u16, frame: u16, n: u64) -> Spot
     requires { ⌜ (start < frame) × (frame + 1 < end) × (1 ≤ n) × (n ≤ 65536) ⌝ }
     ensures { λ r. ⌜ (r ≡ spotAt (index start end frame n)) × (r .lo ≤ r .hi) × (r .hi < n) ⌝ }
 {
-    // it never wraps; the compiler then takes a conversion that does not wait for the sample before
-    let a = wrapping_sub_u64(frame as u64, start as u64);
-    let b = end as u64 - 1 - start as u64;
+    // neither wraps: a caller has tested before that the frame is past the start and short of end - 1
+    let a = frame - start;
+    let b = end - 1 - start;
     let i = (a as f64) / (b as f64) * ((n - 1) as f64);
     let lo = floor(i);
     let hi = ceil(i);

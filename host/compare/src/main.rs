@@ -146,6 +146,10 @@ fn main() {
         run.section("names", &s);
         run.cuts(&s);
     }
+    // the longest lists there are
+    for s in [sections::walk_cycle(1, 4095), sections::scroll(1, 65535)] {
+        run.section("longest lists", &s);
+    }
     let c = &run.counts;
     eprintln!();
     println!(

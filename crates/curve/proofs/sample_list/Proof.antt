@@ -6,6 +6,10 @@ use borrow.Author.Needs.{needs}
 use Rattle.curve.proofs.sample_list.Statement.{statement}
 use Rattle.curve.proofs.sample_list.Tie as tie
 
+-- the first test leaves start < frame, the second frame < end - 1
+locate-requires : tie.Need-locate-requires
+locate-requires c κs = search needs
+
 value-requires : tie.Need-value-requires
 value-requires c κs = let z = c .before .before .before in let a = z .args in value-inside (a .s .now) (a .l) (a .number) (z .pre .0) _ (z .pre .1)
 
@@ -70,7 +74,7 @@ sample-list-spec =
     value-requires-2
     returns-2
     (λ c. search needs)
-    (λ c κs. search needs)
+    locate-requires
     value-requires-3
     value-requires-4
     (λ c κs. search needs)
