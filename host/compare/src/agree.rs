@@ -115,16 +115,16 @@ fn finding(s: &[u8], read: &[Entry], counts: &mut Counts) -> Agreed {
     Ok(())
 }
 
-/// The totals under the listing, by what the Rust has read.
+/// The totals under the listing, by what the Rust has read. A section of more than 65,536 bytes is not listed.
 fn totals(s: &[u8], read: &[Entry]) -> Agreed {
+    if s.len() > 65_536 {
+        agree!(motion::list(s), "answer=13\n", "the listing of a long section");
+        return Ok(());
+    }
     let whole: Vec<_> = read.iter().filter(|e| !oracle::too_many_objects(s, e.offset)).filter_map(|e| e.value.as_ref().ok()).collect();
     let samples: usize = whole.iter().map(|v| oracle::samples(v)).sum();
     let expected = format!("accepted={}\nrefused={}\nsamples={samples}\n", whole.len(), read.len() - whole.len());
     let listing = motion::list(s);
-    if s.len() > 65_536 {
-        agree!(listing, "answer=13\n", "the listing of a longer section");
-        return Ok(());
-    }
     let lines: Vec<_> = listing.split_inclusive('\n').collect();
     agree!(lines[lines.len() - 3..].concat(), expected, "the totals under the listing");
     Ok(())

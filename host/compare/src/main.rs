@@ -29,8 +29,12 @@ impl Run {
 
     fn held(&self, what: &str, s: &[u8], agreed: Agreed) {
         if let Err(message) = agreed {
-            let hex: String = s.iter().map(|b| format!("{b:02x}")).collect();
-            println!("\nmismatch in the {what}, seed {}\n{message}\nsection {hex}", self.seed);
+            // the long ones are the same in every run
+            let section = match s.len() {
+                0..=65_536 => s.iter().map(|b| format!("{b:02x}")).collect(),
+                n => format!("of {n} bytes"),
+            };
+            println!("\nmismatch in the {what}, seed {}\n{message}\nsection {section}", self.seed);
             std::process::exit(1);
         }
     }
