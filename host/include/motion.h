@@ -49,11 +49,15 @@ uint32_t motion_find(const uint8_t *section, size_t length, const uint8_t name[1
 
 /* A curve of an object or track. out[0] is 0 for none; 1 for a constant, whose value goes to `value`; 2 for a list, with its start, end,
  * place in the section, length and bytes per value in out[1] to out[5]. Axes are 0, 1, 2, channels 0 to 4. A rotation has nine doubles,
- * column by column. */
+ * column by column. A scale has two, its first and its second number; the first is the one that is sampled. */
 uint32_t motion_translation_curve(const uint8_t *section, size_t length, size_t entry, size_t object, size_t axis, uint64_t out[6], double value[1]);
 uint32_t motion_rotation_curve(const uint8_t *section, size_t length, size_t entry, size_t object, uint64_t out[6], double value[9]);
-uint32_t motion_scale_curve(const uint8_t *section, size_t length, size_t entry, size_t object, size_t axis, uint64_t out[6], double value[1]);
+uint32_t motion_scale_curve(const uint8_t *section, size_t length, size_t entry, size_t object, size_t axis, uint64_t out[6], double value[2]);
 uint32_t motion_channel_curve(const uint8_t *section, size_t length, size_t entry, size_t track, size_t channel, uint64_t out[6], double value[1]);
+
+/* One value of an object's scale: its first and its second number. The index counts the values that the curve stores: those of its list, or
+ * the one of a constant. */
+uint32_t motion_scale_value(const uint8_t *section, size_t length, size_t entry, size_t object, size_t axis, size_t index, double out[2]);
 
 /* The matrix of an SRT0 track at a frame: sixteen doubles, column by column. */
 uint32_t motion_uv_matrix(const uint8_t *section, size_t length, size_t entry, size_t track, uint16_t frame, double out[16]);

@@ -84,6 +84,13 @@ pub enum Curve<T> {
     List(List),
 }
 
+/// One value of a scale. The first number is the one that is sampled; the second is what the section stores behind it.
+#[derive(Clone, Copy, Debug, PartialEq)]
+pub struct Pair {
+    pub first: f64,
+    pub second: f64,
+}
+
 /// Where a list stands in the section, and how many items it has.
 #[derive(Clone, Copy, Debug, PartialEq, Eq)]
 pub struct Place {
@@ -141,7 +148,16 @@ mod calls {
             object: usize,
             axis: usize,
             out: *mut [u64; 6],
-            value: *mut [f64; 1],
+            value: *mut [f64; 2],
+        ) -> u32;
+        pub fn motion_scale_value(
+            s: *const u8,
+            len: usize,
+            entry: usize,
+            object: usize,
+            axis: usize,
+            index: usize,
+            out: *mut [f64; 2],
         ) -> u32;
         pub fn motion_channel_curve(
             s: *const u8,
@@ -325,15 +341,36 @@ pub fn rotation_curve(section: &[u8], entry: usize, object: usize) -> Result<Cur
     answer(n, curve_of(out, [[v[0], v[1], v[2]], [v[3], v[4], v[5]], [v[6], v[7], v[8]]]))
 }
 
-/// An object's scale curve on axis 0, 1 or 2.
+/// An object's scale curve on axis 0, 1 or 2. A constant has two numbers.
 ///
 /// ```
-/// assert_eq!(motion::scale_curve(motion::example::WALK, 0, 0, 3), Err(motion::Refusal(9)));
+/// let constant = motion::Curve::Constant(motion::Pair { first: 1.5, second: -2.0 });
+/// assert_eq!(motion::scale_curve(motion::example::GROW, 0, 0, 0), Ok(constant));
+/// assert_eq!(motion::scale_curve(motion::example::GROW, 0, 0, 3), Err(motion::Refusal(9)));
 /// ```
-pub fn scale_curve(section: &[u8], entry: usize, object: usize, axis: usize) -> Result<Curve<f64>> {
-    let (mut out, mut value) = ([0; 6], [0.0]);
+pub fn scale_curve(section: &[u8], entry: usize, object: usize, axis: usize) -> Result<Curve<Pair>> {
+    let (mut out, mut value) = ([0; 6], [0.0; 2]);
     let n = unsafe { calls::motion_scale_curve(section.as_ptr(), section.len(), entry, object, axis, &mut out, &mut value) };
-    answer(n, curve_of(out, value[0]))
+    answer(n, curve_of(out, pair_of(value)))
+}
+
+/// Both numbers of one value of an object's scale. The index counts the values that the curve of the axis stores: those of its list, or the one
+/// of a constant.
+///
+/// ```
+/// let grow = motion::example::GROW;
+/// assert_eq!(motion::scale_value(grow, 0, 0, 0, 0), Ok(motion::Pair { first: 1.5, second: -2.0 }));
+/// assert_eq!(motion::scale_value(grow, 0, 0, 1, 1), Ok(motion::Pair { first: 2.0, second: 0.5 }));
+/// assert_eq!(motion::scale_value(grow, 0, 0, 1, 2), Err(motion::Refusal(9)));
+/// ```
+pub fn scale_value(section: &[u8], entry: usize, object: usize, axis: usize, index: usize) -> Result<Pair> {
+    let mut out = [0.0; 2];
+    let n = unsafe { calls::motion_scale_value(section.as_ptr(), section.len(), entry, object, axis, index, &mut out) };
+    answer(n, pair_of(out))
+}
+
+fn pair_of(numbers: [f64; 2]) -> Pair {
+    Pair { first: numbers[0], second: numbers[1] }
 }
 
 /// An object's translation at the common frames of its three curves, x, y, z for each, into `out` from element `place` on.
@@ -470,8 +507,12 @@ pub fn pattern_name(section: &[u8], entry: usize, track: usize) -> Result<[u8; 1
     answer(n, name_of(out[0], out[1]))
 }
 
-/// A section to try the calls on.
+/// Sections to try the calls on.
 pub mod example {
     /// A JNT0 section with the entry `walk`: twelve frames, and one object, whose translation is 1, -1, 0.5.
     pub const WALK: &[u8] = b"JNT0\x56\0\0\0\0\x01\0\0\0\0\0\0\0\0\0\0\0\0\0\0\x04\0\0\0\x30\0\0\0walk\0\0\0\0\0\0\0\0\0\0\0\0J\0AC\x0c\0\x01\0\0\0\0\0\0\0\0\0\0\0\0\0\x16\0\x78\x02\0\0\0\x10\0\0\0\xf0\xff\xff\0\x08\0\0";
+
+    /// A JNT0 section with the entry `grow`: two frames, and one object, whose scale is constant on x, two values in 1.3.12 on y and one value in
+    /// 1.19.12 on z.
+    pub const GROW: &[u8] = b"JNT0\x72\0\0\0\0\x01\0\0\0\0\0\0\0\0\0\0\0\0\0\0\x04\0\0\0\x30\0\0\0grow\0\0\0\0\0\0\0\0\0\0\0\0J\0AC\x02\0\x01\0\0\0\0\0\0\0\0\0\0\0\0\0\x16\0\x42\x08\0\0\0\x18\0\0\0\xe0\xff\xff\0\0\x02\x10\x32\0\0\0\0\0\x01\0\x3a\0\0\0\0\x10\0\xfc\0\x20\0\x08\0\x40\x06\0\0\xf8\xff\xff";
 }

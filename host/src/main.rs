@@ -1,5 +1,5 @@
 //! motion: asks a motion section at a terminal.
-use motion::{Curve, Refusal};
+use motion::{Curve, Pair, Refusal};
 use std::ffi::OsString;
 use std::fs::File;
 use std::io::{self, ErrorKind, Read, Write};
@@ -18,12 +18,14 @@ motion curve FILE ENTRY OBJECT translation AXIS
 motion curve FILE ENTRY OBJECT rotation
 motion curve FILE ENTRY OBJECT scale AXIS
 motion curve FILE ENTRY TRACK channel CHANNEL
+motion scale FILE ENTRY OBJECT AXIS INDEX
 motion resample FILE ENTRY OBJECT translation
 motion resample FILE ENTRY OBJECT scale
 
 FILE is a JNT0, SRT0 or PAT0 section; - is standard input. NAME is text, or 0x and 32 hex digits; it ends before its
 first zero byte, and so does an entry's name. Of entries with equal names the first is found. FRAME is 0 to 65535.
-ENTRY, OBJECT, TRACK, AXIS and CHANNEL count from 0.
+ENTRY, OBJECT, TRACK, AXIS, CHANNEL and INDEX count from 0; INDEX counts the values that a scale's curve stores, of
+which each has two numbers and the first is sampled.
 --bits, in any place, prints each float as sixteen hex digits.
 The exit status is 0 where the section accepts, 1 where it refuses, 2 for misuse and where reading or writing fails.";
 
@@ -84,6 +86,10 @@ impl Args {
     fn floats(&self, floats: &[f64]) -> String {
         let words: Vec<_> = floats.iter().map(|x| if self.bits { format!("{:016x}", x.to_bits()) } else { format!("{x:?}") }).collect();
         words.join(" ")
+    }
+
+    fn pair(&self, v: Pair) -> String {
+        format!("first={}\nsecond={}\n", self.floats(&[v.first]), self.floats(&[v.second]))
     }
 
     fn matrix<const N: usize>(&self, columns: [[f64; N]; N]) -> String {
@@ -185,10 +191,17 @@ fn curve(args: &Args) -> Outcome {
     Ok(match kind {
         "rotation" => args.curve(motion::rotation_curve(&s, entry, index)?, |m| args.matrix(m)),
         "translation" => args.curve(motion::translation_curve(&s, entry, index, args.index(5, "AXIS")?)?, number),
-        "scale" => args.curve(motion::scale_curve(&s, entry, index, args.index(5, "AXIS")?)?, number),
+        "scale" => args.curve(motion::scale_curve(&s, entry, index, args.index(5, "AXIS")?)?, |v| args.pair(v)),
         "channel" => args.curve(motion::channel_curve(&s, entry, index, args.index(5, "CHANNEL")?)?, number),
         other => return Err(Stop::Misuse(format!("there is no curve {other:?}"))),
     })
+}
+
+fn scale(args: &Args) -> Outcome {
+    args.no_more(6)?;
+    let s = args.section()?;
+    let (entry, object) = (args.index(2, "ENTRY")?, args.index(3, "OBJECT")?);
+    Ok(args.pair(motion::scale_value(&s, entry, object, args.index(4, "AXIS")?, args.index(5, "INDEX")?)?))
 }
 
 fn resample(args: &Args) -> Outcome {
@@ -225,6 +238,7 @@ fn run(args: &Args, options: &[OsString]) -> Outcome {
         "uv" => uv(args),
         "choice" => choice(args),
         "curve" => curve(args),
+        "scale" => scale(args),
         "resample" => resample(args),
         other => Err(Stop::Misuse(format!("there is no command {other:?}"))),
     }

@@ -42,6 +42,26 @@ fn accepted() {
 }
 
 #[test]
+fn scales() {
+    let grow = motion::example::GROW;
+    assert_eq!(motion("curve - 0 0 scale 0", grow), ("constant\nfirst=1.5\nsecond=-2.0\n".into(), 0));
+    assert_eq!(motion("curve - 0 0 scale 1", grow), ("list\nstart=0\nend=2\nplace=98\nlength=2\nsize=4\n".into(), 0));
+    assert_eq!(motion("scale - 0 0 0 0", grow), ("first=1.5\nsecond=-2.0\n".into(), 0));
+    assert_eq!(motion("scale - 0 0 1 0", grow), ("first=1.0\nsecond=-0.25\n".into(), 0));
+    assert_eq!(motion("scale - 0 0 1 1 --bits", grow), ("first=4000000000000000\nsecond=3fe0000000000000\n".into(), 0));
+    assert_eq!(motion("scale - 0 0 2 0", grow), ("first=100.0\nsecond=-0.5\n".into(), 0));
+    // past the values, the axes, the objects and the entries; and no curve
+    for words in ["0 0 0 1", "0 0 1 2", "0 0 2 1", "0 0 3 0", "0 1 0 0", "1 0 0 0"] {
+        assert_eq!(motion(&format!("scale - {words}"), grow), ("".into(), 1), "{words}");
+    }
+    assert_eq!(motion("scale - 0 0 0 0", WALK), ("".into(), 1));
+    // what is sampled is the first number
+    let (matrix, _) = motion("matrix - 0 0 1", grow);
+    assert_eq!(matrix, "column 0: 1.5 0.0 0.0 0.0\ncolumn 1: 0.0 2.0 0.0 0.0\ncolumn 2: 0.0 0.0 100.0 0.0\ncolumn 3: 0.0 0.0 0.0 1.0\n");
+    assert_eq!(motion("resample - 0 0 scale", grow), ("start=0\nend=2\nframes=2\n1.5 1.0 100.0\n1.5 2.0 100.0\n".into(), 0));
+}
+
+#[test]
 fn names_with_leftovers() {
     let mut section = WALK.to_vec();
     section[36..48].copy_from_slice(b"\0ing leftove");
@@ -96,6 +116,9 @@ fn misused() {
         "check - 0 1",
         "matrix - 0 0 70000",
         "curve - 0 0 speed",
+        "scale - 0 0 0",
+        "scale - 0 0 0 one",
+        "scale - 0 0 0 0 0",
         "find - a-name-that-is-too-long",
         "check - 0 --bytes",
     ] {

@@ -14,6 +14,7 @@ extern "C" {
     fn motion_translation_curve(s: *const u8, len: usize, entry: usize, i: usize, axis: usize, out: *mut u64, value: *mut u64) -> u32;
     fn motion_rotation_curve(s: *const u8, len: usize, entry: usize, i: usize, out: *mut u64, value: *mut u64) -> u32;
     fn motion_scale_curve(s: *const u8, len: usize, entry: usize, i: usize, axis: usize, out: *mut u64, value: *mut u64) -> u32;
+    fn motion_scale_value(s: *const u8, len: usize, entry: usize, i: usize, axis: usize, index: usize, out: *mut u64) -> u32;
     fn motion_channel_curve(s: *const u8, len: usize, entry: usize, i: usize, channel: usize, out: *mut u64, value: *mut u64) -> u32;
     fn motion_uv_matrix(s: *const u8, len: usize, entry: usize, i: usize, frame: u16, out: *mut u64) -> u32;
     fn motion_material_name(s: *const u8, len: usize, entry: usize, i: usize, out: *mut u64) -> u32;
@@ -92,6 +93,7 @@ fn call(c: &[u8], s: &[u8], words: &mut [u64], floats: &mut [u64], bytes: &mut [
             14 => motion_resample_scale(p, len, entry, index, f, room.min(40), place, w),
             15 => motion_matrix(p, len, entry, index, frame, bytes.as_mut_ptr(), room.min(140)),
             16 => motion_check(p, len, entry),
+            17 => motion_scale_value(p, len, entry, index, part, place, f),
             code => panic!("no call has the code {code}"),
         }
     }
@@ -101,12 +103,14 @@ fn call(c: &[u8], s: &[u8], words: &mut [u64], floats: &mut [u64], bytes: &mut [
 fn lent(code: u8) -> (usize, usize, usize) {
     match code {
         0 => (5, 0, 0),
-        2 | 4 | 5 => (6, 1, 0),
+        2 | 5 => (6, 1, 0),
         3 => (6, 9, 0),
+        4 => (6, 2, 0),
         6 => (0, 16, 0),
         13 | 14 => (4, 40, 0),
         15 => (0, 0, 140),
         16 => (0, 0, 0),
+        17 => (0, 2, 0),
         _ => (2, 0, 0),
     }
 }

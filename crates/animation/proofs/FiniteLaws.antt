@@ -10,7 +10,7 @@ use lib.Dec.{leb, eqb, lit≤}
 use lib.ListN.{length, getD}
 use lib.Ieee.{Float}
 use Rattle.util.specs.Bits.{bits, bit}
-use Rattle.util.specs.Fixed.{fix1-19-12, fix1-3-12, width}
+use Rattle.util.specs.Fixed.{Fix, fix1-19-12, fix1-3-12, width}
 use Rattle.util.specs.Reader.{done, part, accepted, run}
 use Rattle.util.specs.declared.cur.Tally.{Tally}
 use Rattle.util.specs.ReaderCode.{tallyOf}
@@ -22,23 +22,28 @@ use Rattle.matrix.specs.Finite.{FiniteMat}
 use Rattle.matrix.specs.Matrix.{f0, f1, trs}
 use Rattle.matrix.proofs.MagnitudeLaws.{Three, Nine, three, translation-below, rotation-below, scale-below, product-below, below-mat}
 use Rattle.rotation.proofs.MagnitudeLaws.{pivot-small, basis-small}
-use Rattle.curve.specs.Curve.{none}
-use Rattle.curve.proofs.MagnitudeLaws.{SizedCurve, count-few, scalar-sized, rotation-sized, number-small, sized}
-use Rattle.animation.specs.Animation.{Axes, Object, Animation, noAxes, axesSamples, objectSamples, mostObjects, Triple, leftOutBit, valuesOf, widthOf, formatOf, scalarList, scalar, axes, animatedAxes, pivotOf, basisOf, Referred, pivotRecord, basisRecord, referred, reference, rotationList, rotation, animatedRotation, animated, object, animation, axesAt, matrixAt}
+use Rattle.curve.specs.Curve.{none, Pair}
+use Rattle.curve.proofs.MagnitudeLaws.{SizedCurve, SmallPair, firsts-sized, count-few, scalar-sized, rotation-sized, number-small, pair-small, sized}
+use Rattle.animation.specs.Animation.{PerAxis, Axes, Object, Animation, noAxes, axesSamples, objectSamples, mostObjects, Triple, translation, scale, Value, firstNumbers, valueFrom, leftOutBit, valuesOf, widthOf, formatOf, scalarList, scalar, axes, animatedAxes, pivotOf, basisOf, Referred, pivotRecord, basisRecord, referred, reference, rotationList, rotation, animatedRotation, animated, object, animation, axesAt, matrixAt}
 use Rattle.animation.proofs.ScalarLaws.{end-lt, values-le}
 
-pub record SizedAxes (a : Axes) : Type 0 where
-  pub x : SizedCurve Small (a .x)
-  pub y : SizedCurve Small (a .y)
-  pub z : SizedCurve Small (a .z)
+pub record SizedAxes {A : Type 0} (P : A → Type 0) (a : PerAxis A) : Type 0 where
+  pub x : SizedCurve P (a .x)
+  pub y : SizedCurve P (a .y)
+  pub z : SizedCurve P (a .z)
+
+-- a value of small numbers
+abbrev pub SmallValue : (t : Triple) → Value t → Type 0
+SmallValue translation = Small
+SmallValue scale = SmallPair
 
 pub record Sized (o : Object) : Type 0 where
-  pub translation : SizedAxes (o .translation)
+  pub translation : SizedAxes (SmallValue translation) (o .translation)
   pub rotation : SizedCurve (Nine Small) (o .rotation)
-  pub scale : SizedAxes (o .scale)
+  pub scale : SizedAxes (SmallValue scale) (o .scale)
 
-axes-few : (a : Axes) → SizedAxes a → axesSamples a ≤ 196605
-axes-few a h = let x = count-few Small (a .x) (h .x) in let y = count-few Small (a .y) (h .y) in let z = count-few Small (a .z) (h .z) in omega arith
+axes-few : {A : Type 0} (P : A → Type 0) (a : PerAxis A) → SizedAxes P a → axesSamples a ≤ 196605
+axes-few P a h = let x = count-few P (a .x) (h .x) in let y = count-few P (a .y) (h .y) in let z = count-few P (a .z) (h .z) in omega arith
 
 -- seven lists, of 65,535 values at most
 abbrev pub objectBound : ℕ
@@ -46,22 +51,26 @@ objectBound = 458745
 
 sized-few : (o : Object) → Sized o → objectSamples o ≤ objectBound
 sized-few o h =
-    let t = axes-few (o .translation) (h .translation) in
+    let t = axes-few Small (o .translation) (h .translation) in
     let r = count-few (Nine Small) (o .rotation) (h .rotation) in
-    let s = axes-few (o .scale) (h .scale) in
+    let s = axes-few SmallPair (o .scale) (h .scale) in
     omega arith
 
 -- three axes at a frame
-pub axes-sized : (default : Float) → Small default → (a : Axes) → SizedAxes a → (frame : ℕ) → Three Mixed (axesAt default a frame)
+pub axes-sized : (default : Float) → Small default → (a : Axes) → SizedAxes Small a → (frame : ℕ) → Three Mixed (axesAt default a frame)
 unfolding axesAt
 axes-sized d p a h frame = three (scalar-sized d p (a .x) (h .x) frame) (scalar-sized d p (a .y) (h .y) frame) (scalar-sized d p (a .z) (h .z) frame)
+
+-- the first numbers of three axes of pairs
+pub first-sized : (a : PerAxis Pair) → SizedAxes SmallPair a → SizedAxes Small (firstNumbers a)
+first-sized a h = record { x = firsts-sized (a .x) (h .x); y = firsts-sized (a .y) (h .y); z = firsts-sized (a .z) (h .z) }
 
 pub matrix-finite : (o : Object) → Sized o → (frame : ℕ) → FiniteMat (matrixAt o frame)
 unfolding matrixAt trs
 matrix-finite o h frame =
     let t = axes-sized f0 below-zero (o .translation) (h .translation) frame in
     let r = rotation-sized (o .rotation) (h .rotation) frame in
-    let s = axes-sized f1 below-one (o .scale) (h .scale) frame in
+    let s = axes-sized f1 below-one (firstNumbers (o .scale)) (first-sized (o .scale) (h .scale)) frame in
     let moved = product-below {j = 84} {k = 84} (lit≤ tt) (translation-below (t .x) (t .y) (t .z)) (rotation-below r) in
     below-mat (product-below {j = 171} {k = 84} (lit≤ tt) moved (scale-below (s .x) (s .y) (s .z)))
 
@@ -81,30 +90,34 @@ format-width w = go (eqb (widthOf w) 0)
 few : (w : ℕ) → valuesOf w < 65536
 few w = let h = values-le w in omega arith
 
-scalar-list-all : (t : Triple) (w off next : ℕ) → All (Of (SizedCurve Small)) (scalarList t w off next)
+value-small : (t : Triple) (f : Fix) → width f ≤ 32 → (bs : List ℕ) → SmallValue t (valueFrom t f bs)
+value-small translation f w bs = number-small f w bs
+value-small scale f w bs = pair-small f w bs
+
+scalar-list-all : (t : Triple) (w off next : ℕ) → All (Of (SizedCurve (SmallValue t))) (scalarList t w off next)
 unfolding scalarList
 scalar-list-all t w off next =
-    all-bind (Many Small (valuesOf w)) _ _ _ (list-all Small off _ _ (λ bs _. number-small (formatOf (widthOf w)) (format-width w) bs) _) λ vs h. sized vs (end-lt w) (few w) h
+    all-bind (Many (SmallValue t) (valuesOf w)) _ _ _ (list-all (SmallValue t) off _ _ (λ bs _. value-small t (formatOf (widthOf w)) (format-width w) bs) _) λ vs h. sized vs (end-lt w) (few w) h
 
-scalar-all : (t : Triple) (b : Bool) (p : ℕ) → All (Of (SizedCurve Small)) (scalar t b p)
+scalar-all : (t : Triple) (b : Bool) (p : ℕ) → All (Of (SizedCurve (SmallValue t))) (scalar t b p)
 unfolding scalar
-scalar-all t true p = all-after _ _ _ λ bs. number-small fix1-19-12 (lit≤ tt) bs
+scalar-all t true p = all-after _ _ _ λ bs. value-small t fix1-19-12 (lit≤ tt) bs
 scalar-all t false p = all-after _ _ _ λ f. scalar-list-all t (f .0) (f .1) (p + 8)
 
-axes-all : (t : Triple) (flags p : ℕ) → All (Of SizedAxes) (axes t flags p)
+axes-all : (t : Triple) (flags p : ℕ) → All (Of (SizedAxes (SmallValue t))) (axes t flags p)
 unfolding axes
 axes-all t flags p =
-    all-bind (Of (SizedCurve Small)) _ _ _ (scalar-all _ _ _) λ x hx.
-    all-bind (Of (SizedCurve Small)) _ _ _ (scalar-all _ _ _) λ y hy.
-    all-bind (Of (SizedCurve Small)) _ _ _ (scalar-all _ _ _) λ z hz.
+    all-bind (Of (SizedCurve (SmallValue t))) _ _ _ (scalar-all t _ _) λ x hx.
+    all-bind (Of (SizedCurve (SmallValue t))) _ _ _ (scalar-all t _ _) λ y hy.
+    all-bind (Of (SizedCurve (SmallValue t))) _ _ _ (scalar-all t _ _) λ z hz.
     record { x = hx; y = hy; z = hz }
 
-no-axes : SizedAxes noAxes
-no-axes = record { x = tt; y = tt; z = tt }
+no-axes : {A : Type 0} (P : A → Type 0) → SizedAxes P noAxes
+no-axes P = record { x = tt; y = tt; z = tt }
 
-animated-axes-all : (t : Triple) (flags p : ℕ) → All (Of SizedAxes) (animatedAxes t flags p)
+animated-axes-all : (t : Triple) (flags p : ℕ) → All (Of (SizedAxes (SmallValue t))) (animatedAxes t flags p)
 unfolding animatedAxes
-animated-axes-all t flags p = all-cond _ (eqb (bits flags (leftOutBit t) (leftOutBit t + 2)) 0) (axes t flags p) (done (noAxes, p)) (axes-all _ _ _) no-axes
+animated-axes-all t flags p = all-cond _ (eqb (bits flags (leftOutBit t) (leftOutBit t + 2)) 0) (axes t flags p) (done (noAxes, p)) (axes-all t _ _) (no-axes (SmallValue t))
 
 module _ (pivot basis : ℕ) where
   reference-all : (x : ℕ) → All (Nine Small) (reference pivot basis x)
@@ -135,9 +148,9 @@ module _ (pivot basis : ℕ) where
   animated-all : (flags p : ℕ) → All Sized (animated pivot basis flags p)
   unfolding animated animatedRotation
   animated-all flags p =
-      all-bind (Of SizedAxes) _ _ _ (animated-axes-all _ _ _) λ a ha.
+      all-bind (Of (SizedAxes Small)) _ _ _ (animated-axes-all translation _ _) λ a ha.
       all-bind (Of (SizedCurve (Nine Small))) _ _ _ (all-cond _ (eqb (bits flags 6 8) 0) (rotation pivot basis (bit flags 8) (a .1)) (done (none, a .1)) (rotation-all _ _) tt) λ r hr.
-      all-bind (Of SizedAxes) _ _ _ (animated-axes-all _ _ _) λ s hs.
+      all-bind (Of (SizedAxes SmallPair)) _ _ _ (animated-axes-all scale _ _) λ s hs.
       record { translation = ha; rotation = hr; scale = hs }
 
   object-all : (p : ℕ) → All Sized (object pivot basis p)
@@ -145,7 +158,7 @@ module _ (pivot basis : ℕ) where
   object-all p =
       all-after _ _ _ λ flags.
       all-after _ _ _ λ _.
-      all-cond _ (bit flags 0) (done _) (animated pivot basis flags (p + 4)) (record { translation = no-axes; rotation = tt; scale = no-axes }) (animated-all _ _)
+      all-cond _ (bit flags 0) (done _) (animated pivot basis flags (p + 4)) (record { translation = no-axes Small; rotation = tt; scale = no-axes SmallPair }) (animated-all _ _)
 
   -- what code counts of an object's lists
   pub object-few : (s : List ℕ) → Bytes s → (p m : ℕ) (x : Tally) → x ≡ tallyOf objectSamples (run (object pivot basis p) s m) → (j c : ℕ) → x ≡ Tally.Whole j c → c ≤ objectBound

@@ -5,7 +5,7 @@ use mathlib.Core.List.{List}
 use mathlib.Core.Path.{_≡_, refl, sym, ap, subst, _∙_}
 use native.Mathlib.Omega.{arith}
 use borrow.Author.Tests.{le-leb, lt-leb, eq-eqb, ne-eqb}
-use lib.Dec.{eqb, leb}
+use lib.Dec.{eqb, leb, lit≤}
 use lib.ListN.{length, take, drop}
 use Rattle.util.specs.declared.cur.Reach.{Reach}
 use Rattle.util.specs.declared.cur.Tally.{Tally}
@@ -14,6 +14,7 @@ use Rattle.animation.specs.declared.ObjectRead.{ObjectRead}
 use Rattle.animation.specs.declared.Tables.{Tables}
 use Rattle.animation.specs.declared.TRSCurves.{TRSCurves}
 use Rattle.animation.specs.declared.Triple.{Triple as CodeTriple}
+use Rattle.animation.specs.declared.AxisCurves.{AxisCurves}
 use Rattle.util.specs.View.{little, wordAt, view, same}
 use Rattle.util.specs.Bits.{bit}
 use Rattle.util.specs.Reader.{Reader, done, Outcome, accepted, refused, run, bind, each, unless}
@@ -23,8 +24,9 @@ use Rattle.util.proofs.Cut.{had, past, short, no-further}
 use Rattle.util.proofs.ViewLaws.{view-take, view-length}
 use Rattle.util.proofs.Each.{counted-of, uncounted-of, from-zero, each-read}
 use Rattle.util.proofs.Calls.{after, run-bind}
-use Rattle.animation.specs.Animation.{Object, stillObject, axesOf, animated, object, objectSamples, Animation, animationStamp, mostObjects, animation}
-use Rattle.animation.specs.AnimationCode.{tripleMeans, axisCurves, InsideAxes, objectCurves, InsideObject, CountedObject, ObjectReads, stillCurves, refusedObject, curvesOf, tablesAt, objectsAt, WholeAnimation}
+use Rattle.curve.proofs.SampleLaws.{first-numbers, first-inside}
+use Rattle.animation.specs.Animation.{Object, stillObject, Triple, translation, scale, axesOf, firstNumbers, sampledOf, numbersOf, animated, object, objectSamples, Animation, animationStamp, mostObjects, animation}
+use Rattle.animation.specs.AnimationCode.{tripleMeans, tripleCurves, InsideTriple, axisCurves, InsideAxes, objectCurves, InsideObject, CountedObject, ObjectReads, stillCurves, refusedObject, curvesOf, tablesAt, objectsAt, WholeAnimation}
 use Rattle.animation.proofs.RotationLaws.{both-words}
 
 -- ---- an object: its flags and two bytes, then what the flags say
@@ -136,11 +138,19 @@ module _ (s : List ℕ) where
 
 -- ---- an object's triples
 
+-- sampling sees the first numbers: they stand inside ..
+pub first-axes : (t : Triple) → 1 ≤ numbersOf t → (s : List ℕ) (a : AxisCurves) → InsideTriple t s a → InsideAxes s a
+first-axes t h s a i = record { x = first-inside (numbersOf t) h s (a .x) (i .x); y = first-inside (numbersOf t) h s (a .y) (i .y); z = first-inside (numbersOf t) h s (a .z) (i .z) }
+
+-- .. and are the same numbers, whether read by themselves or taken of the pairs
+pub first-of-axes : (s : List ℕ) (a : AxisCurves) → firstNumbers (tripleCurves scale s a) ≡ axisCurves s a
+first-of-axes s a = rw (first-numbers s (a .x), first-numbers s (a .y), first-numbers s (a .z)) refl
+
 module _ (t : Tables) (s : List ℕ) (c : TRSCurves) where
   pub triple-inside : InsideObject t s c → (which : CodeTriple) → InsideAxes s (curvesOf which c)
-  triple-inside h CodeTriple.Translation = h .trans
-  triple-inside h CodeTriple.Scale = h .scale
+  triple-inside h CodeTriple.Translation = first-axes translation (lit≤ tt) s (c .trans) (h .trans)
+  triple-inside h CodeTriple.Scale = first-axes scale (lit≤ tt) s (c .scale) (h .scale)
 
-  pub triple-axes : (which : CodeTriple) → axesOf (tripleMeans which) (objectCurves t s c) ≡ axisCurves s (curvesOf which c)
+  pub triple-axes : (which : CodeTriple) → sampledOf (tripleMeans which) (axesOf (tripleMeans which) (objectCurves t s c)) ≡ axisCurves s (curvesOf which c)
   triple-axes CodeTriple.Translation = refl
-  triple-axes CodeTriple.Scale = refl
+  triple-axes CodeTriple.Scale = first-of-axes s (c .scale)

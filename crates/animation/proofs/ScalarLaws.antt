@@ -6,8 +6,7 @@ use mathlib.Core.Path.{_≡_, refl, sym, ap, subst, _∙_}
 use native.Mathlib.Nat.{mul-le-mul, mod-lt, div-le-self, le-refl}
 use native.Mathlib.Omega.{arith}
 use borrow.Author.Tests.{le-ltb, lt-ltb}
-use lib.Ieee.{Float}
-use lib.ListN.{length, drop}
+use lib.ListN.{length, take, drop}
 use lib.Pow.{pow-pos}
 use Rattle.util.specs.View.{wordAt, view}
 use Rattle.util.specs.Reader.{accepted, refused, run, bind, unless}
@@ -18,10 +17,10 @@ use Rattle.animation.specs.declared.ScalarRead.{ScalarRead}
 use Rattle.curve.specs.declared.SampleList.{SampleList}
 use Rattle.curve.specs.declared.ScalarCurve.{ScalarCurve}
 use Rattle.curve.specs.declared.Number.{Number}
-use Rattle.curve.specs.Curve.{constant, samples, numberBytes, numberOf}
-use Rattle.curve.specs.CurveCode.{formatMeans, listMeans, valuesIn, InsideList}
-use Rattle.curve.proofs.SampleLaws.{number-take}
-use Rattle.animation.specs.Animation.{Triple, translation, scale, numbersOf, startOf, endOf, widthOf, rateOf, valuesOf, listOf, curveWord, listFields, formatOf, valueSize, scalarList, scalar}
+use Rattle.curve.specs.Curve.{constant, samples, numberBytes}
+use Rattle.curve.specs.CurveCode.{formatMeans, listMeans, valuesIn, InsideOf}
+use Rattle.curve.proofs.SampleLaws.{number-take, pair-take}
+use Rattle.animation.specs.Animation.{Triple, translation, scale, Value, numbersOf, valueFrom, startOf, endOf, widthOf, rateOf, valuesOf, listOf, curveWord, listFields, formatOf, valueSize, scalarList, scalar}
 use Rattle.animation.specs.AnimationCode.{codeList, ScalarReads}
 
 -- a curve word's end is below 4096, and so is the number of its values
@@ -64,6 +63,11 @@ module _ (p m : ℕ) (s : List ℕ) where
           reach : (p m : ℕ) → max (max m (p + 4)) (p + 4 + 4) ≡ max m (p + 8)
           reach p m = omega arith
 
+-- a value does not see past its bytes
+value-take : (t : Triple) (f : Fix) (size : ℕ) (bs : List ℕ) → numberBytes f * numbersOf t ≤ size → valueFrom t f (take size bs) ≡ valueFrom t f bs
+value-take translation f size bs h = number-take f size bs (omega arith)
+value-take scale f size bs h = pair-take f size bs h
+
 -- ---- a constant, of n numbers
 
 module _ (t : Triple) (p m : ℕ) (s : List ℕ) (n : ℕ) (e : n ≡ numbersOf t) where
@@ -71,9 +75,9 @@ module _ (t : Triple) (p m : ℕ) (s : List ℕ) (n : ℕ) (e : n ≡ numbersOf 
   unfolding run bind scalar
   constant-short h = short _ _ _ (subst (λ (k : ℕ). length s < p + 4 * k) e h)
 
-  pub constant-whole : 1 ≤ n → p + 4 * n ≤ length s → run (scalar t true p) s m ≡ accepted (max m (p + 4 * n)) (constant (numberOf fix1-19-12 (drop p s)), p + 4 * n)
+  pub constant-whole : p + 4 * n ≤ length s → run (scalar t true p) s m ≡ accepted (max m (p + 4 * n)) (constant (valueFrom t fix1-19-12 (drop p s)), p + 4 * n)
   unfolding run bind scalar
-  constant-whole k h = rw (sym e) (had _ _ _ _ h (ap (λ (v : Float). accepted (max m (p + 4 * n)) (constant v, p + 4 * n)) (number-take fix1-19-12 (4 * n) (drop p s) (omega arith))))
+  constant-whole h = rw (sym e) (had _ _ _ _ h (ap (λ (v : Value t). accepted (max m (p + 4 * n)) (constant v, p + 4 * n)) (value-take t fix1-19-12 (4 * n) (drop p s) (omega (arith, e)))))
 
 -- ---- a list
 
@@ -90,10 +94,10 @@ module _ (t : Triple) (w off next m : ℕ) (s : List ℕ) where
   end = off + valueSize t w * valuesOf w
 
   values-whole : end ≤ length s
-      → run (scalarList t w off next) s m ≡ accepted (max m end) (samples (listOf w off (valueSize t w)) (view (valueSize t w) (numberOf (formatOf (widthOf w))) (valuesOf w) (drop off s)), next)
+      → run (scalarList t w off next) s m ≡ accepted (max m end) (samples (listOf w off (valueSize t w)) (view (valueSize t w) (valueFrom t (formatOf (widthOf w))) (valuesOf w) (drop off s)), next)
   unfolding run bind scalarList
   values-whole h =
-      had _ _ _ _ h (ap (λ (vs : List Float). accepted (max m end) (samples (listOf w off (valueSize t w)) vs, next)) (view-take (valueSize t w) (numberOf (formatOf (widthOf w))) (valuesOf w) (drop off s)))
+      had _ _ _ _ h (ap (λ (vs : List (Value t)). accepted (max m end) (samples (listOf w off (valueSize t w)) vs, next)) (view-take (valueSize t w) (valueFrom t (formatOf (widthOf w))) (valuesOf w) (drop off s)))
 
   -- the list as the code has it, with values of z bytes
   module _ (z : ℕ) (e : z ≡ valueSize t w) (l : SampleList) (q : l ≡ codeList w off z) where
@@ -111,21 +115,23 @@ module _ (t : Triple) (w off next m : ℕ) (s : List ℕ) where
       room : end ≤ length s
       room = subst (λ (x : ℕ). x ≤ length s) code-end h
 
-      values-there : InsideList s (codeList w off (valueSize t w)) n
-      values-there =
-          record {
-            ends = room;
-            frames = div-le-self (endOf w - startOf w) (2 ^ rateOf w);
-            wide = subst (λ (f : Fix). numberBytes f ≤ valueSize t w) (sym k) (number-fits t (formatOf (widthOf w)));
-          }
+      values-there : InsideOf (numbersOf t) s (ScalarCurve.Samples (codeList w off (valueSize t w)) n)
+      values-there = (
+        record {
+          ends = room;
+          frames = div-le-self (endOf w - startOf w) (2 ^ rateOf w);
+          wide = subst (λ (f : Fix). numberBytes f ≤ valueSize t w) (sym k) (number-fits t (formatOf (widthOf w)));
+        },
+        subst (λ (f : Fix). numberBytes f * numbersOf t ≤ valueSize t w) (sym k) (le-refl (valueSize t w)),
+      )
 
-      pub code-whole : ScalarReads (scalarList t w off next) s m next (ScalarRead.Whole (ScalarCurve.Samples l n) (record { pos = next; reach = far }))
+      pub code-whole : ScalarReads t (scalarList t w off next) s m next (ScalarRead.Whole (ScalarCurve.Samples l n) (record { pos = next; reach = far }))
       code-whole =
           record {
             reads =
                 values-whole room
-                ∙ (ap (λ (j : ℕ). accepted j (samples (listOf w off (valueSize t w)) (view (valueSize t w) (numberOf (formatOf (widthOf w))) (valuesOf w) (drop off s)), next)) (sym (g ∙ ap (max m) code-end))
-                ∙ (ap (λ (f : Fix). accepted far (samples (listOf w off (valueSize t w)) (view (valueSize t w) (numberOf f) (valuesOf w) (drop off s)), next)) (sym k)
-                ∙ ap (λ (x : SampleList). accepted far (samples (listMeans x) (valuesIn s x n), next)) (sym code-list)));
-            holds = (subst (λ (x : SampleList). InsideList s x n) (sym code-list) values-there, le-refl next);
+                ∙ (ap (λ (j : ℕ). accepted j (samples (listOf w off (valueSize t w)) (view (valueSize t w) (valueFrom t (formatOf (widthOf w))) (valuesOf w) (drop off s)), next)) (sym (g ∙ ap (max m) code-end))
+                ∙ (ap (λ (f : Fix). accepted far (samples (listOf w off (valueSize t w)) (view (valueSize t w) (valueFrom t f) (valuesOf w) (drop off s)), next)) (sym k)
+                ∙ ap (λ (x : SampleList). accepted far (samples (listMeans x) (valuesIn (valueFrom t) s x n), next)) (sym code-list)));
+            holds = (subst (λ (x : SampleList). InsideOf (numbersOf t) s (ScalarCurve.Samples x n)) (sym code-list) values-there, le-refl next);
           }

@@ -4,8 +4,9 @@ use mathlib.Core.Bool.{Bool, true, false, not, cond}
 use mathlib.Core.List.{List, [], _∷_}
 use lib.Dec.{ltb, leb, eqb}
 use lib.Ieee.{Float}
+use lib.ListN.{getD}
 use Rattle.util.specs.View.{little, wordAt, same}
-use Rattle.util.specs.Reader.{Reader, done, part, _>>=_, _>>_, bytes, word, list, each, unless}
+use Rattle.util.specs.Reader.{Reader, done, part, _>>=_, _>>_, bytes, word, list, each, unless, Verdict, given}
 use Rattle.util.specs.Bits.{bits, bit}
 use Rattle.util.specs.Fixed.{Fix, fix1-19-12, fix1-3-12, fixed}
 use Rattle.matrix.specs.declared.Col3.{Col3}
@@ -13,24 +14,29 @@ use Rattle.matrix.specs.declared.Mat3.{Mat3}
 use Rattle.matrix.specs.declared.Mat4.{Mat4}
 use Rattle.matrix.specs.Matrix.{f0, f1, col3, identity3, trs}
 use Rattle.rotation.specs.Rotation.{pivotMat, basisMat}
-use Rattle.curve.specs.Curve.{ListRecord, Curve, none, constant, samples, sampleCount, numberBytes, numberOf, mix, mixMat, sampleAt}
+use Rattle.curve.specs.Curve.{ListRecord, Curve, none, constant, samples, sampleCount, numberBytes, numberOf, Pair, pairOf, firsts, mix, mixMat, sampleAt}
 
 -- the curves of the three axes
-pub record Axes : Type 0 where
-  pub x : Curve Float
-  pub y : Curve Float
-  pub z : Curve Float
+pub record PerAxis (A : Type 0) : Type 0 where
+  pub x : Curve A
+  pub y : Curve A
+  pub z : Curve A
 
+-- of numbers, as they are sampled
+abbrev pub Axes : Type 0
+Axes = PerAxis Float
+
+-- a scale's curves are of pairs
 pub record Object : Type 0 where
   pub translation : Axes
   pub rotation : Curve Mat3
-  pub scale : Axes
+  pub scale : PerAxis Pair
 
 pub record Animation : Type 0 where
   pub frames : ℕ
   pub objects : List Object
 
-abbrev pub noAxes : Axes
+abbrev pub noAxes : {A : Type 0} → PerAxis A
 noAxes = record { x = none; y = none; z = none }
 
 -- an object that nothing animates
@@ -38,7 +44,7 @@ abbrev pub stillObject : Object
 stillObject = record { translation = noAxes; rotation = none; scale = noAxes }
 
 -- how many values the lists of its seven curves have
-abbrev pub axesSamples : Axes → ℕ
+abbrev pub axesSamples : {A : Type 0} → PerAxis A → ℕ
 axesSamples a = sampleCount (a .x) + sampleCount (a .y) + sampleCount (a .z)
 
 abbrev pub objectSamples : Object → ℕ
@@ -48,24 +54,45 @@ objectSamples o = axesSamples (o .translation) + sampleCount (o .rotation) + axe
 abbrev pub mostObjects : ℕ
 mostObjects = 99
 
+-- f of the curve of axis 0, 1 or 2; 9 past them
+abbrev pub onAxis : {A B : Type 0} → PerAxis A → ℕ → (Curve A → Verdict B) → Verdict B
+onAxis a axis f = given (ltb axis 3) 9 (f (getD (a .x ∷ a .y ∷ a .z ∷ []) axis none))
+
 -- ---- an object's two triples of curves: what is said of one is said of both
 
 pub data Triple : Type 0 where
   translation scale : Triple
 
-abbrev pub axesOf : Triple → Object → Axes
+-- what one value is: a number, or a pair
+abbrev pub Value : Triple → Type 0
+Value translation = Float
+Value scale = Pair
+
+abbrev pub axesOf : (t : Triple) → Object → PerAxis (Value t)
 axesOf translation o = o .translation
 axesOf scale o = o .scale
+
+-- what is sampled of a scale: the first number of each pair
+abbrev pub firstNumbers : PerAxis Pair → Axes
+firstNumbers a = record { x = firsts (a .x); y = firsts (a .y); z = firsts (a .z) }
+
+abbrev pub sampledOf : (t : Triple) → PerAxis (Value t) → Axes
+sampledOf translation a = a
+sampledOf scale a = firstNumbers a
 
 -- where a curve is missing
 abbrev pub defaultOf : Triple → Float
 defaultOf translation = f0
 defaultOf scale = f1
 
--- how many numbers a value has, of which the first is used
+-- how many numbers a value has, and the value that its bytes give
 abbrev pub numbersOf : Triple → ℕ
 numbersOf translation = 1
 numbersOf scale = 2
+
+abbrev pub valueFrom : (t : Triple) → Fix → List ℕ → Value t
+valueFrom translation f bs = numberOf f bs
+valueFrom scale f bs = pairOf f bs
 
 -- the first of the two flag bits that leave the triple out, where one of them is set
 abbrev pub leftOutBit : Triple → ℕ
@@ -124,26 +151,26 @@ abbrev pub valueSize : Triple → ℕ → ℕ
 valueSize t w = numberBytes (formatOf (widthOf w)) * numbersOf t
 
 -- the list of a curve word at its offset, and where the next field stands
-unfoldable pub scalarList : Triple → ℕ → ℕ → ℕ → Reader (Curve Float × ℕ)
+unfoldable pub scalarList : (t : Triple) → ℕ → ℕ → ℕ → Reader (Curve (Value t) × ℕ)
 scalarList t w off next = do
-  values ← list off (valueSize t w) (numberOf (formatOf (widthOf w))) (valuesOf w)
+  values ← list off (valueSize t w) (valueFrom t (formatOf (widthOf w))) (valuesOf w)
   done (samples (listOf w off (valueSize t w)) values, next)
 
 -- a scalar curve whose fields stand at p, and where the next field stands
-unfoldable pub scalar : Triple → Bool → ℕ → Reader (Curve Float × ℕ)
+unfoldable pub scalar : (t : Triple) → Bool → ℕ → Reader (Curve (Value t) × ℕ)
 scalar t true p = do
   bs ← bytes p (4 * numbersOf t)
-  done (constant (numberOf fix1-19-12 bs), p + 4 * numbersOf t)
+  done (constant (valueFrom t fix1-19-12 bs), p + 4 * numbersOf t)
 scalar t false p = do
   (w, off) ← listFields p
   scalarList t w off (p + 8)
 
 -- axis i of a triple
-abbrev pub axis : Triple → ℕ → ℕ → ℕ → Reader (Curve Float × ℕ)
+abbrev pub axis : (t : Triple) → ℕ → ℕ → ℕ → Reader (Curve (Value t) × ℕ)
 axis t flags i p = scalar t (bit flags (constantBit t + i)) p
 
 -- the axes x, y, z in order
-unfoldable pub axes : Triple → ℕ → ℕ → Reader (Axes × ℕ)
+unfoldable pub axes : (t : Triple) → ℕ → ℕ → Reader (PerAxis (Value t) × ℕ)
 axes t flags p = do
   (x, py) ← axis t flags 0 p
   (y, pz) ← axis t flags 1 py
@@ -151,7 +178,7 @@ axes t flags p = do
   done (record { x = x; y = y; z = z }, end)
 
 -- .. unless the flags leave them out
-unfoldable pub animatedAxes : Triple → ℕ → ℕ → Reader (Axes × ℕ)
+unfoldable pub animatedAxes : (t : Triple) → ℕ → ℕ → Reader (PerAxis (Value t) × ℕ)
 animatedAxes t flags p = cond (eqb (bits flags (leftOutBit t) (leftOutBit t + 2)) 0) (axes t flags p) (done (noAxes, p))
 
 -- ---- rotation
@@ -249,6 +276,6 @@ animation = do
 unfoldable pub axesAt : Float → Axes → ℕ → Col3
 axesAt default a frame = col3 (sampleAt mix default (a .x) frame) (sampleAt mix default (a .y) frame) (sampleAt mix default (a .z) frame)
 
--- (translation · rotation) · scale, with the defaults 0, identity and 1
+-- (translation · rotation) · scale, with the defaults 0, identity and 1; of a scale the first numbers
 unfoldable pub matrixAt : Object → ℕ → Mat4
-matrixAt o frame = trs (axesAt f0 (o .translation) frame) (sampleAt mixMat identity3 (o .rotation) frame) (axesAt f1 (o .scale) frame)
+matrixAt o frame = trs (axesAt f0 (o .translation) frame) (sampleAt mixMat identity3 (o .rotation) frame) (axesAt f1 (firstNumbers (o .scale)) frame)

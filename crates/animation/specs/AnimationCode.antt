@@ -3,7 +3,6 @@ use Prim.Native.Nat.{ℕ, _+_, _*_, _≤_, _<_}
 use mathlib.Core.Bool.{cond}
 use mathlib.Core.List.{List, map}
 use mathlib.Core.Path.{_≡_}
-use lib.Ieee.{Float}
 use lib.ListN.{length, take, drop, getD}
 use Rattle.util.specs.View.{little, wordAt, view}
 use Rattle.util.specs.Reader.{Reader, Outcome, accepted, refused, run, each}
@@ -28,8 +27,8 @@ use Rattle.curve.specs.declared.SampleList.{SampleList}
 use Rattle.curve.specs.declared.ScalarCurve.{ScalarCurve}
 use Rattle.matrix.specs.declared.Mat3.{Mat3}
 use Rattle.curve.specs.Curve.{Curve, none, constant, samples}
-use Rattle.curve.specs.CurveCode.{listMeans, scalarCurve, Inside}
-use Rattle.animation.specs.Animation.{Axes, Object, Triple, translation, scale, startOf, endOf, valuesOf, Referred, pivotRecord, basisRecord, referred, object, axesSamples, objectSamples, Animation, animation}
+use Rattle.curve.specs.CurveCode.{listMeans, curveIn, scalarCurve, Inside, InsideOf}
+use Rattle.animation.specs.Animation.{PerAxis, Axes, Object, Triple, translation, scale, Value, numbersOf, valueFrom, startOf, endOf, valuesOf, Referred, pivotRecord, basisRecord, referred, object, axesSamples, objectSamples, Animation, animation}
 
 abbrev pub tripleMeans : CodeTriple → Triple
 tripleMeans Translation = translation
@@ -49,21 +48,31 @@ Forward (FieldsRead.Refused n) = Unit {0}
 abbrev pub codeList : ℕ → ℕ → ℕ → SampleList
 codeList w place size = record { start = startOf w; end = endOf w; place = place; length = valuesOf w; size = size }
 
--- a curve, and where reading stands after it
-abbrev pub scalarMeans : List ℕ → ScalarRead → Outcome (Curve Float × ℕ)
-scalarMeans s (ScalarRead.Whole c at) = accepted (at .reach) (scalarCurve s c, at .pos)
-scalarMeans s (ScalarRead.Refused n) = refused n
+-- a curve of the triple, and where reading stands after it
+abbrev pub scalarMeans : (t : Triple) → List ℕ → ScalarRead → Outcome (Curve (Value t) × ℕ)
+scalarMeans t s (ScalarRead.Whole c at) = accepted (at .reach) (curveIn (valueFrom t) s c, at .pos)
+scalarMeans t s (ScalarRead.Refused n) = refused n
 
 -- the next field stands at `most` or before
-abbrev pub ScalarInside : List ℕ → ℕ → ScalarRead → Type 0
-ScalarInside s most (ScalarRead.Whole c at) = Inside s c × (at .pos ≤ most)
-ScalarInside s most (ScalarRead.Refused n) = Unit {0}
+abbrev pub ScalarInside : Triple → List ℕ → ℕ → ScalarRead → Type 0
+ScalarInside t s most (ScalarRead.Whole c at) = InsideOf (numbersOf t) s c × (at .pos ≤ most)
+ScalarInside t s most (ScalarRead.Refused n) = Unit {0}
 
-abbrev pub ScalarReads : Reader (Curve Float × ℕ) → List ℕ → ℕ → ℕ → ScalarRead → Type 0
-ScalarReads r s reach most x = Reads (scalarMeans s) (ScalarInside s most) r s reach x
+abbrev pub ScalarReads : (t : Triple) → Reader (Curve (Value t) × ℕ) → List ℕ → ℕ → ℕ → ScalarRead → Type 0
+ScalarReads t r s reach most x = Reads (scalarMeans t s) (ScalarInside t s most) r s reach x
 
 -- ---- three axes
 
+-- their values
+abbrev pub tripleCurves : (t : Triple) → List ℕ → AxisCurves → PerAxis (Value t)
+tripleCurves t s a = record { x = curveIn (valueFrom t) s (a .x); y = curveIn (valueFrom t) s (a .y); z = curveIn (valueFrom t) s (a .z) }
+
+pub record InsideTriple (t : Triple) (s : List ℕ) (a : AxisCurves) : Type 0 where
+  pub x : InsideOf (numbersOf t) s (a .x)
+  pub y : InsideOf (numbersOf t) s (a .y)
+  pub z : InsideOf (numbersOf t) s (a .z)
+
+-- and the first number of each value
 abbrev pub axisCurves : List ℕ → AxisCurves → Axes
 axisCurves s a = record { x = scalarCurve s (a .x); y = scalarCurve s (a .y); z = scalarCurve s (a .z) }
 
@@ -72,17 +81,17 @@ pub record InsideAxes (s : List ℕ) (a : AxisCurves) : Type 0 where
   pub y : Inside s (a .y)
   pub z : Inside s (a .z)
 
-abbrev pub axesMeans : List ℕ → AxesRead → Outcome (Axes × ℕ)
-axesMeans s (AxesRead.Whole a at n) = accepted (at .reach) (axisCurves s a, at .pos)
-axesMeans s (AxesRead.Refused n) = refused n
+abbrev pub axesMeans : (t : Triple) → List ℕ → AxesRead → Outcome (PerAxis (Value t) × ℕ)
+axesMeans t s (AxesRead.Whole a at n) = accepted (at .reach) (tripleCurves t s a, at .pos)
+axesMeans t s (AxesRead.Refused n) = refused n
 
 -- .. and n is how many values their lists have
-abbrev pub AxesInside : List ℕ → ℕ → AxesRead → Type 0
-AxesInside s most (AxesRead.Whole a at n) = InsideAxes s a × (at .pos ≤ most) × (n ≡ axesSamples (axisCurves s a))
-AxesInside s most (AxesRead.Refused n) = Unit {0}
+abbrev pub AxesInside : Triple → List ℕ → ℕ → AxesRead → Type 0
+AxesInside t s most (AxesRead.Whole a at n) = InsideTriple t s a × (at .pos ≤ most) × (n ≡ axesSamples (tripleCurves t s a))
+AxesInside t s most (AxesRead.Refused n) = Unit {0}
 
-abbrev pub AxesReads : Reader (Axes × ℕ) → List ℕ → ℕ → ℕ → AxesRead → Type 0
-AxesReads r s reach most x = Reads (axesMeans s) (AxesInside s most) r s reach x
+abbrev pub AxesReads : (t : Triple) → Reader (PerAxis (Value t) × ℕ) → List ℕ → ℕ → ℕ → AxesRead → Type 0
+AxesReads t r s reach most x = Reads (axesMeans t s) (AxesInside t s most) r s reach x
 
 abbrev pub noCurves : AxisCurves
 noCurves = record { x = ScalarCurve.None; y = ScalarCurve.None; z = ScalarCurve.None }
@@ -136,12 +145,12 @@ RotationReads r t s reach most x = Reads (rotationMeans t s) (RotationInside t s
 -- ---- objects
 
 abbrev pub objectCurves : Tables → List ℕ → TRSCurves → Object
-objectCurves t s c = record { translation = axisCurves s (c .trans); rotation = rotationCurve t s (c .rotation); scale = axisCurves s (c .scale) }
+objectCurves t s c = record { translation = tripleCurves translation s (c .trans); rotation = rotationCurve t s (c .rotation); scale = tripleCurves scale s (c .scale) }
 
 pub record InsideObject (t : Tables) (s : List ℕ) (c : TRSCurves) : Type 0 where
-  pub trans : InsideAxes s (c .trans)
+  pub trans : InsideTriple translation s (c .trans)
   pub rotation : InsideRotation t s (c .rotation)
-  pub scale : InsideAxes s (c .scale)
+  pub scale : InsideTriple scale s (c .scale)
 
 abbrev pub objectMeans : Tables → List ℕ → ObjectRead → Outcome Object
 objectMeans t s x = reached (x .reach) (objectCurves t s (x .curves))

@@ -27,7 +27,7 @@ ghost use Rattle.util.specs.Sums.{total};
 ghost use Rattle.curve.specs.Curve.{sampleCount};
 ghost use Rattle.curve.specs.CurveCode.{formatMeans};
 ghost use Rattle.animation.specs.Animation.{numbersOf, leftOutBit, constantBit, startOf, endOf, widthOf, formatOf, valueSize, listFields, scalarList, scalar, axis, axes, animatedAxes, reference, rotationList, rotation, animatedRotation, animated, object, axesSamples, objectSamples};
-ghost use Rattle.animation.specs.AnimationCode.{tripleMeans, fieldsMeans, Forward, codeList, ScalarReads, AxesReads, noCurves, referredMeans, referenceEnd, axisCurves, rotationCurve, RotationReads, ObjectReads, stillCurves, refusedObject, curvesOf, tablesAt, AnimationIs};
+ghost use Rattle.animation.specs.AnimationCode.{tripleMeans, fieldsMeans, Forward, codeList, ScalarReads, AxesReads, noCurves, referredMeans, referenceEnd, tripleCurves, rotationCurve, RotationReads, ObjectReads, stillCurves, refusedObject, tablesAt, AnimationIs};
 ghost use Rattle.animation.specs.Animation as spec;
 
 // One of an object's two triples of curves.
@@ -195,7 +195,7 @@ fn value_size(which: Triple, w: u32) -> u16
 // A constant.
 fn read_constant(s: &[u8], which: Triple, at: Cur) -> ScalarRead
     requires { ⌜ at .pos ≤ 1048576 ⌝ }
-    ensures { λ r. ⌜ ScalarReads (scalar (tripleMeans which) true (at .pos)) (now (s .entry)) (at .reach) (at .pos + 8) r ⌝ }
+    ensures { λ r. ⌜ ScalarReads (tripleMeans which) (scalar (tripleMeans which) true (at .pos)) (now (s .entry)) (at .reach) (at .pos + 8) r ⌝ }
 {
     let pos = at.pos + 4 * numbers(which) as usize;
     if s.len() < pos {
@@ -213,7 +213,7 @@ fn read_constant(s: &[u8], which: Triple, at: Cur) -> ScalarRead
 // The values of a curve word's list, where its offset points.
 fn read_values(s: &[u8], which: Triple, w: u32, offset: u32, at: Cur) -> ScalarRead
     requires { ⌜ startOf w < endOf w ⌝ }
-    ensures { λ r. ⌜ ScalarReads (scalarList (tripleMeans which) w offset (at .pos)) (now (s .entry)) (at .reach) (at .pos) r ⌝ }
+    ensures { λ r. ⌜ ScalarReads (tripleMeans which) (scalarList (tripleMeans which) w offset (at .pos)) (now (s .entry)) (at .reach) (at .pos) r ⌝ }
 {
     let size = value_size(which, w);
     let list = sample_list(w, offset as usize, size);
@@ -233,7 +233,7 @@ fn read_values(s: &[u8], which: Triple, w: u32, offset: u32, at: Cur) -> ScalarR
 // A list: its fields, then its values.
 fn read_list(s: &[u8], which: Triple, at: Cur) -> ScalarRead
     requires { ⌜ at .pos ≤ 1048576 ⌝ }
-    ensures { λ r. ⌜ ScalarReads (scalar (tripleMeans which) false (at .pos)) (now (s .entry)) (at .reach) (at .pos + 8) r ⌝ }
+    ensures { λ r. ⌜ ScalarReads (tripleMeans which) (scalar (tripleMeans which) false (at .pos)) (now (s .entry)) (at .reach) (at .pos + 8) r ⌝ }
 {
     match read_fields(s, at.pos, at.reach) {
         FieldsRead::Refused(n) => ScalarRead::Refused(n),
@@ -253,7 +253,7 @@ fn read_list(s: &[u8], which: Triple, at: Cur) -> ScalarRead
 // The curve of axis i.
 fn read_axis(s: &[u8], which: Triple, flags: u16, i: u32, at: Cur) -> ScalarRead
     requires { ⌜ (i ≤ 2) × (at .pos ≤ 1048576) ⌝ }
-    ensures { λ r. ⌜ ScalarReads (axis (tripleMeans which) flags i (at .pos)) (now (s .entry)) (at .reach) (at .pos + 8) r ⌝ }
+    ensures { λ r. ⌜ ScalarReads (tripleMeans which) (axis (tripleMeans which) flags i (at .pos)) (now (s .entry)) (at .reach) (at .pos + 8) r ⌝ }
 {
     if bit16(flags, constant_bit(which) + i) {
         read_constant(s, which, at)
@@ -264,7 +264,7 @@ fn read_axis(s: &[u8], which: Triple, flags: u16, i: u32, at: Cur) -> ScalarRead
 
 // How many values the lists of three axes have.
 fn axes_samples(x: ScalarCurve, y: ScalarCurve, z: ScalarCurve) -> u32
-    ensures { λ r. ⌜ ((s : List ℕ) → r ≡ axesSamples (axisCurves s (record { x = x; y = y; z = z }))) ⌝ }
+    ensures { λ r. ⌜ ((t : spec.Triple) (s : List ℕ) → r ≡ axesSamples (tripleCurves t s (record { x = x; y = y; z = z }))) ⌝ }
 {
     sample_count(x) as u32 + sample_count(y) as u32 + sample_count(z) as u32
 }
@@ -272,7 +272,7 @@ fn axes_samples(x: ScalarCurve, y: ScalarCurve, z: ScalarCurve) -> u32
 // The curves of x, y and z, one whole before the next.
 fn read_axes(s: &[u8], which: Triple, flags: u16, at: Cur) -> AxesRead
     requires { ⌜ at .pos ≤ 524288 ⌝ }
-    ensures { λ r. ⌜ AxesReads (axes (tripleMeans which) flags (at .pos)) (now (s .entry)) (at .reach) (at .pos + 24) r ⌝ }
+    ensures { λ r. ⌜ AxesReads (tripleMeans which) (axes (tripleMeans which) flags (at .pos)) (now (s .entry)) (at .reach) (at .pos + 24) r ⌝ }
 {
     match read_axis(s, which, flags, 0, at) {
         ScalarRead::Refused(n) => AxesRead::Refused(n),
@@ -427,7 +427,7 @@ fn is_clear(flags: u16, lo: u32) -> bool
 // Three axes where they are animated, and none where they are left out.
 fn read_animated_axes(s: &[u8], which: Triple, flags: u16, at: Cur) -> AxesRead
     requires { ⌜ at .pos ≤ 524288 ⌝ }
-    ensures { λ r. ⌜ AxesReads (animatedAxes (tripleMeans which) flags (at .pos)) (now (s .entry)) (at .reach) (at .pos + 24) r ⌝ }
+    ensures { λ r. ⌜ AxesReads (tripleMeans which) (animatedAxes (tripleMeans which) flags (at .pos)) (now (s .entry)) (at .reach) (at .pos + 24) r ⌝ }
 {
     if is_clear(flags, left_out_bit(which)) {
         read_axes(s, which, flags, at)
@@ -533,16 +533,6 @@ pub fn read_object(s: &[u8], t: Tables, p: usize, reach: usize) -> ObjectRead
         };
     }
     read_animated(s, t, flags, Cur { pos, reach: far })
-}
-
-// The curves of a triple.
-pub fn curves_of(which: Triple, c: TRSCurves) -> AxisCurves
-    ensures { λ r. ⌜ r ≡ curvesOf which c ⌝ }
-{
-    match which {
-        Triple::Translation => c.trans,
-        Triple::Scale => c.scale,
-    }
 }
 
 // How far an object reaches, and how many values its lists have.

@@ -1,4 +1,5 @@
 pub mod Demand3
 pub mod Finding
 pub mod Samples
+pub mod ScaleValues
 pub mod CallsLaws

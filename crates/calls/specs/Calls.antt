@@ -1,6 +1,6 @@
 -- Every public call, and what it answers: a reader of the section, by document 01's order of refusals.
--- Section, entry index and entry are read by `entry`; then come the index of the object, track, channel or axis (9), 10 and 11, which
--- read nothing. Assumes nothing.
+-- Section, entry index and entry are read by `entry`; then come the index of the object, track, channel, axis or value (9), 10 and 11,
+-- which read nothing. Assumes nothing.
 use Prim.Native.Nat.{ℕ, _+_}
 use mathlib.Core.List.{List, [], _∷_}
 use mathlib.Core.Option.{Option}
@@ -13,8 +13,8 @@ use Rattle.matrix.specs.declared.Mat3.{Mat3}
 use Rattle.matrix.specs.declared.Mat4.{Mat4}
 use Rattle.matrix.specs.Matrix.{bytesOf}
 use Rattle.info_block.specs.Name.{Name, earliest}
-use Rattle.curve.specs.Curve.{Curve, none, Recorded, recorded}
-use Rattle.animation.specs.Animation.{Object, stillObject, Triple, axesOf, defaultOf, matrixAt}
+use Rattle.curve.specs.Curve.{Curve, none, Pair, pairAt, Recorded, recorded}
+use Rattle.animation.specs.Animation.{Object, stillObject, onAxis, Triple, Value, axesOf, sampledOf, defaultOf, matrixAt}
 use Rattle.material_animation.specs.MaterialAnimation.{uvMatrixAt}
 use Rattle.pattern.specs.Pattern.{Key, Track, choice}
 use Rattle.nitro.specs.Container.{Kind, jnt, srt, pat, allKinds, stamped, section, Entry, entry, EntryRecord, recordOf, entryOf}
@@ -26,6 +26,8 @@ use Rattle.gltf.specs.Curve.{Resampled, resample}
 pub data ObjectQuery : Type 0 where
   matrix : (frame : ℕ) → ObjectQuery
   curve : (which : Triple) (axis : ℕ) → ObjectQuery
+  -- one value of its scale
+  scaleValue : (axis index : ℕ) → ObjectQuery
   rotationCurve : ObjectQuery
   resampled : (which : Triple) (out : List Float) (place : ℕ) → ObjectQuery
   -- the C call: the matrix's bytes, into a lent slice
@@ -62,7 +64,8 @@ pub record Listed : Type 0 where
 
 abbrev pub ObjectReply : ObjectQuery → Type 0
 ObjectReply (matrix f) = Mat4
-ObjectReply (curve t a) = Recorded Float
+ObjectReply (curve t a) = Recorded (Value t)
+ObjectReply (scaleValue a i) = Pair
 ObjectReply rotationCurve = Recorded Mat3
 ObjectReply (resampled t out p) = Resampled
 ObjectReply (matrixBytes f out) = List ℕ
@@ -104,9 +107,10 @@ chosenOf (k ∷ ks) frame = let c = choice (k ∷ ks) k frame in answered (recor
 -- of an object of an entry that stands at `entry`
 unfoldable pub askObject : (q : ObjectQuery) → ℕ → Object → Verdict (ObjectReply q)
 askObject (matrix frame) entry o = answered (matrixAt o frame)
-askObject (curve which axis) entry o = let a = axesOf which o in at (a .x ∷ a .y ∷ a .z ∷ []) none axis (λ c. answered (recorded entry c))
+askObject (curve which axis) entry o = onAxis (axesOf which o) axis (λ c. answered (recorded entry c))
+askObject (scaleValue axis index) entry o = onAxis (o .scale) axis (λ c. pairAt c index)
 askObject rotationCurve entry o = answered (recorded entry (o .rotation))
-askObject (resampled which out place) entry o = resample (defaultOf which) (axesOf which o) out place
+askObject (resampled which out place) entry o = resample (defaultOf which) (sampledOf which (axesOf which o)) out place
 askObject (matrixBytes frame out) entry o = given (leb 128 (length out)) 11 (answered (sets out 0 (bytesOf (matrixAt o frame))))
 
 unfoldable pub askMaterial : (q : MaterialQuery) → ℕ → List (Curve Float) → Verdict (MaterialReply q)

@@ -1,20 +1,20 @@
 -- Small sections, and what the calls answer on them. Assumes nothing.
 use Prim.Native.Nat.{ℕ, _+_, _*_}
-use mathlib.Core.Bool.{false}
+use mathlib.Core.Bool.{true, false}
 use mathlib.Core.List.{List, [], _∷_, _++_}
 use mathlib.Core.Option.{none, some}
 use mathlib.Core.Path.{_≡_, refl}
-use lib.IntN.{negsuc}
+use lib.IntN.{pos, negsuc}
 use lib.ListN.{take, replicate}
 use lib.Ieee.{Float, fin, neg}
 use Rattle.util.specs.View.{littleBytes}
-use Rattle.util.specs.Reader.{accepted, refused}
+use Rattle.util.specs.Reader.{Outcome, accepted, refused}
 use Rattle.matrix.specs.Matrix.{f0, f1, col4}
-use Rattle.curve.specs.Curve.{listed}
+use Rattle.curve.specs.Curve.{Pair, always, listed}
 use Rattle.animation.specs.Animation.{translation, scale}
 use Rattle.nitro.specs.Container.{jnt, srt, pat, stampOf, EntryRecord}
 use Rattle.gltf.specs.Curve.{noSpan, span}
-use Rattle.calls.specs.Calls.{check, find, on, ofObject, matrix, matrixBytes, curve, resampled, ofPattern, chosen, ofMaterial, channelCurve, answer}
+use Rattle.calls.specs.Calls.{check, find, on, ofObject, matrix, matrixBytes, curve, scaleValue, resampled, ofPattern, chosen, ofMaterial, channelCurve, answer}
 use Rattle.calls.specs.Evaluate.{evaluate}
 use Rattle.calls.specs.Pinned.{walk, walkName}
 
@@ -210,3 +210,41 @@ pub the-earliest :
     × (answer (check 1) oldAndNew ≡ refused 5)
 unfolding evaluate
 the-earliest = (refl, refl, refl, refl)
+
+-- ---- 11. A scale: on x the constant 3/2 with -2 behind it, on y two pairs of 1.3.12, on z one of 1.19.12; translation and rotation are left out
+
+-- z's list has one frame; `rate` stands for bits 30 and 31 of its curve word: at half the rate it has no values
+abbrev grow : ℕ → List ℕ
+grow rate =
+    stampOf jnt ++ u32 0 ++ block 1 4 (u32 48) (zeros 16)
+    ++ (0x4A ∷ 0x00 ∷ 0x41 ∷ 0x43 ∷ []) ++ u16 2 ++ u16 1 ++ zeros 12 ++ u16 22
+    ++ u16 0x842 ++ u16 0 ++ u32 0x1800 ++ u32 0xFFFF_E000 ++ u32 (2 * 0x1_0000 + 0x1000_0000) ++ u32 50 ++ u32 (0x1_0000 + rate) ++ u32 58
+    ++ u16 0x1000 ++ u16 0xFC00 ++ u16 0x2000 ++ u16 0x800 ++ u32 0x6_4000 ++ u32 0xFFFF_F800
+
+abbrev scaleOf : (axis index : ℕ) → List ℕ → Outcome Pair
+scaleOf axis index s = answer (on jnt 0 (ofObject 0 (scaleValue axis index))) s
+
+-- both numbers in their format, and 9 from the first index on that is past the values; a constant has one value
+pub its-pairs :
+    (scaleOf 0 0 (grow 0) ≡ accepted 114 (record { first = fin false 3 (negsuc 0); second = fin true 1 (pos 1) }))
+    × (scaleOf 0 1 (grow 0) ≡ refused 9)
+    × (scaleOf 1 0 (grow 0) ≡ accepted 114 (record { first = f1; second = fin true 1 (negsuc 1) }))
+    × (scaleOf 1 1 (grow 0) ≡ accepted 114 (record { first = fin false 1 (pos 1); second = fin false 1 (negsuc 0) }))
+    × (scaleOf 1 2 (grow 0) ≡ refused 9)
+    × (scaleOf 2 0 (grow 0) ≡ accepted 114 (record { first = fin false 25 (pos 2); second = fin true 1 (negsuc 0) }))
+    × (scaleOf 3 0 (grow 0) ≡ refused 9)
+unfolding evaluate
+its-pairs = (refl, refl, refl, refl, refl, refl, refl)
+
+-- a list without values and a missing curve have none
+pub no-pairs : (scaleOf 2 0 (grow 0x4000_0000) ≡ refused 9) × (scaleOf 0 0 walk ≡ refused 9)
+unfolding evaluate
+no-pairs = (refl, refl)
+
+-- the record of the constant has both numbers; what is sampled is the first
+pub first-sampled :
+    (answer (on jnt 0 (ofObject 0 (curve scale 0))) (grow 0) ≡ accepted 114 (always (record { first = fin false 3 (negsuc 0); second = fin true 1 (pos 1) })))
+    × (answer (on jnt 0 (ofObject 0 (matrix 1))) (grow 0)
+    ≡ accepted 114 (record { c0 = col4 (fin false 3 (negsuc 0)) f0 f0 f0; c1 = col4 f0 (fin false 1 (pos 1)) f0 f0; c2 = col4 f0 f0 (fin false 25 (pos 2)) f0; c3 = col4 f0 f0 f0 f1 }))
+unfolding evaluate
+first-sampled = (refl, refl)

@@ -2,6 +2,7 @@ pub mod Calls
 pub mod Demand3
 pub mod Finding
 pub mod Samples
+pub mod ScaleValues
 pub mod Evaluate
 pub mod Pinned
 pub mod Examples

@@ -1,12 +1,12 @@
 -- How large what is sampled of a curve is, by how large its values are. Assumes nothing.
 use Prim.Native.Nat.{ℕ, _-_, _^_, _≤_, _<_}
 use mathlib.Core.Bool.{Bool, true, false, cond}
-use mathlib.Core.List.{List, [], _∷_}
+use mathlib.Core.List.{List, [], _∷_, map}
 use mathlib.Core.Path.{_≡_, refl}
 use native.Mathlib.Omega.{arith}
 use borrow.Author.Tests.{leb-false}
 use lib.Dec.{leb, lit≤, lit<}
-use lib.ListN.{length, getD}
+use lib.ListN.{length, length-map, getD}
 use lib.Ieee.{Float}
 use Rattle.util.specs.Fixed.{Fix, width}
 use Rattle.util.proofs.All.{Each, each-getD, Many}
@@ -16,7 +16,7 @@ use Rattle.matrix.specs.declared.Col3.{Col3}
 use Rattle.matrix.specs.declared.Mat3.{Mat3}
 use Rattle.matrix.specs.Matrix.{identity3}
 use Rattle.matrix.proofs.MagnitudeLaws.{Three, Nine, three}
-use Rattle.curve.specs.Curve.{ListRecord, Curve, none, constant, samples, sampleCount, numberOf, floor, ceil, ofWhole, index, mix, mixCol, mixMat, between, sampleList, sampleAt}
+use Rattle.curve.specs.Curve.{ListRecord, Curve, none, constant, samples, sampleCount, numberOf, Pair, pairOf, firsts, floor, ceil, ofWhole, index, mix, mixCol, mixMat, between, sampleList, sampleAt}
 use Rattle.curve.proofs.IndexLaws.{index-upto, floor-le}
 
 -- g is the fraction, and its bound is crude
@@ -41,6 +41,20 @@ abbrev pub SizedCurve : {X : Type 0} → (X → Type 0) → Curve X → Type 0
 SizedCurve P none = Unit {0}
 SizedCurve P (constant v) = P v
 SizedCurve P (samples l vs) = SizedList P l vs
+
+-- a pair of small numbers
+abbrev pub SmallPair : Pair → Type 0
+SmallPair v = Small (v .first) × Small (v .second)
+
+-- of a curve of such pairs the first numbers
+pub firsts-sized : (c : Curve Pair) → SizedCurve SmallPair c → SizedCurve Small (firsts c)
+firsts-sized none h = tt
+firsts-sized (constant v) h = h .0
+firsts-sized (samples l vs) h = record { ends = h .ends; few = rw (length-map vs (λ (v : Pair). v .first)) (h .few); values = go vs (h .values) }
+  where
+    go : (vs : List Pair) → Each SmallPair vs → Each Small (map (λ v. v .first) vs)
+    go [] h = tt
+    go (v ∷ vs) h = (h .0 .0, go vs (h .1))
 
 pub count-few : {X : Type 0} (P : X → Type 0) (c : Curve X) → SizedCurve P c → sampleCount c < 65536
 count-few P none h = lit< tt
@@ -92,6 +106,9 @@ rotation-sized = sample-sized (Nine Small) (Nine Mixed) mixMat (λ m h. record {
 -- a number of at most 32 bits
 pub number-small : (f : Fix) → width f ≤ 32 → (bs : List ℕ) → Small (numberOf f bs)
 number-small f w bs = small-fixed f w _
+
+pub pair-small : (f : Fix) → width f ≤ 32 → (bs : List ℕ) → SmallPair (pairOf f bs)
+pair-small f w bs = (small-fixed f w _, small-fixed f w _)
 
 -- a list of n values
 pub sized : {X : Type 0} {P : X → Type 0} {l : ListRecord} {n : ℕ} (vs : List X) → l .end < 65536 → n < 65536 → Many P n vs → SizedList P l vs

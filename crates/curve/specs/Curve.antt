@@ -1,17 +1,18 @@
 -- Curves, and what they give at a frame. Assumes nothing.
 use Prim.Native.Nat.{ℕ, _+_, _-_, _/_, _%_}
 use mathlib.Core.Bool.{cond}
-use mathlib.Core.List.{List, [], _∷_}
-use lib.Dec.{leb, eqb}
+use mathlib.Core.List.{List, [], _∷_, map}
+use lib.Dec.{leb, ltb, eqb}
 use lib.IntN.{pos}
-use lib.ListN.{length, getD}
+use lib.ListN.{length, drop, getD}
 use lib.Ieee.{Float, binary64, add, sub, mul, div, ofInt}
 use lib.Ieee.Positive.{num, den}
 use Rattle.matrix.specs.declared.Col3.{Col3}
 use Rattle.matrix.specs.declared.Mat3.{Mat3}
 use Rattle.util.specs.View.{wordAt}
+use Rattle.util.specs.Reader.{Verdict, answered, given}
 use Rattle.util.specs.Fixed.{Fix, width, fixed}
-use Rattle.matrix.specs.Matrix.{f1, col3}
+use Rattle.matrix.specs.Matrix.{f0, f1, col3}
 
 -- of a list: its start and end frame, where it stands, and the bytes per value
 pub record ListRecord : Type 0 where
@@ -36,6 +37,18 @@ sampleCount none = 0
 sampleCount (constant v) = 0
 sampleCount (samples l vs) = length vs
 
+-- the values that it stores; a constant is one
+abbrev pub stored : {A : Type 0} → Curve A → List A
+stored none = []
+stored (constant v) = v ∷ []
+stored (samples l vs) = vs
+
+-- the same curve, of what f gives for each value
+abbrev pub mapped : {A B : Type 0} → (A → B) → Curve A → Curve B
+mapped f none = none
+mapped f (constant v) = constant (f v)
+mapped f (samples l vs) = samples l (map f vs)
+
 -- ---- numbers
 
 -- the bytes of a number
@@ -45,6 +58,23 @@ numberBytes f = width f / 8
 -- the first number of a value's bytes
 abbrev pub numberOf : Fix → List ℕ → Float
 numberOf f bs = fixed f (wordAt (numberBytes f) bs 0)
+
+-- one value of a scale: two numbers, of which the first is sampled
+pub record Pair : Type 0 where
+  pub first : Float
+  pub second : Float
+
+-- the pair of a value's bytes: the second number stands behind the first, in the same format
+abbrev pub pairOf : Fix → List ℕ → Pair
+pairOf f bs = record { first = numberOf f bs; second = numberOf f (drop (numberBytes f) bs) }
+
+-- the first numbers of a curve of pairs
+abbrev pub firsts : Curve Pair → Curve Float
+firsts c = mapped (λ v. v .first) c
+
+-- the pair at index i of those that a curve stores; 9 past them
+abbrev pub pairAt : Curve Pair → ℕ → Verdict Pair
+pairAt c i = given (ltb i (length (stored c))) 9 (answered (getD (stored c) i (record { first = f0; second = f0 })))
 
 -- ---- the whole numbers below and above a float that has no sign (num / den is its value)
 

@@ -4,6 +4,7 @@ use mathlib.Core.List.{List}
 use lib.Ieee.{Float, binary64, sub}
 use lib.ListN.{length, drop}
 use Rattle.util.specs.View.{view}
+use Rattle.util.specs.Reader.{Verdict, answered, denied}
 use Rattle.util.specs.Fixed.{Fix, fix1-19-12, fix1-3-12, fix1-10-5}
 use Rattle.curve.specs.declared.Spot.{Spot}
 use Rattle.curve.specs.declared.Number.{Number}
@@ -12,7 +13,10 @@ use Rattle.curve.specs.declared.SampleList.{SampleList}
 use Rattle.curve.specs.declared.ScalarCurve.{ScalarCurve}
 use Rattle.curve.specs.declared.ScalarCurve.the-variants.{None, Constant, Samples}
 use Rattle.curve.specs.declared.ScalarRecord.{ScalarRecord}
-use Rattle.curve.specs.Curve.{ListRecord, Curve, none, constant, samples, numberBytes, numberOf, floor, ceil, ofWhole, Recorded, noCurve, always, listed}
+use Rattle.curve.specs.declared.Pair.{Pair as CodePair}
+use Rattle.curve.specs.declared.PairRecord.{PairRecord}
+use Rattle.curve.specs.declared.PairAnswer.{PairAnswer}
+use Rattle.curve.specs.Curve.{ListRecord, Curve, none, constant, samples, numberBytes, numberOf, Pair, pairOf, floor, ceil, ofWhole, Recorded, noCurve, always, listed}
 
 -- the places around i
 abbrev pub spotAt : Float → Spot
@@ -26,15 +30,25 @@ formatMeans Fix1_10_5 = fix1-10-5
 abbrev pub listMeans : SampleList → ListRecord
 listMeans l = record { start = l .start; end = l .end; place = l .place; size = l .size }
 
--- the values of a list that stands in the section
-abbrev pub valuesIn : List ℕ → SampleList → Number → List Float
-valuesIn s l number = view (l .size) (numberOf (formatMeans number)) (l .length) (drop (l .place) s)
+-- `value` gives a value of its format and its bytes
+module _ {A : Type 0} (value : Fix → List ℕ → A) where
+  -- the values of a list that stands in the section
+  abbrev pub valuesIn : List ℕ → SampleList → Number → List A
+  valuesIn s l number = view (l .size) (value (formatMeans number)) (l .length) (drop (l .place) s)
 
--- a constant is a number of 1.19.12 at its place
+  -- a constant is a value of 1.19.12 at its place
+  abbrev pub curveIn : List ℕ → ScalarCurve → Curve A
+  curveIn s None = none
+  curveIn s (Constant place) = constant (value fix1-19-12 (drop place s))
+  curveIn s (Samples l number) = samples (listMeans l) (valuesIn s l number)
+
+-- of numbers, the first of each value
 abbrev pub scalarCurve : List ℕ → ScalarCurve → Curve Float
-scalarCurve s None = none
-scalarCurve s (Constant place) = constant (numberOf fix1-19-12 (drop place s))
-scalarCurve s (Samples l number) = samples (listMeans l) (valuesIn s l number)
+scalarCurve s c = curveIn numberOf s c
+
+-- of pairs
+abbrev pub pairCurve : List ℕ → ScalarCurve → Curve Pair
+pairCurve s c = curveIn pairOf s c
 
 -- a list whose values stand in the section
 pub record InsideList (s : List ℕ) (l : SampleList) (number : Number) : Type 0 where
@@ -47,8 +61,27 @@ Inside s None = Unit {0}
 Inside s (Constant place) = place + 4 ≤ length s
 Inside s (Samples l number) = InsideList s l number
 
+-- .. with n numbers for each value
+abbrev pub InsideOf : ℕ → List ℕ → ScalarCurve → Type 0
+InsideOf n s None = Unit {0}
+InsideOf n s (Constant place) = place + 4 * n ≤ length s
+InsideOf n s (Samples l number) = InsideList s l number × (numberBytes (formatMeans number) * n ≤ l .size)
+
 -- a curve's record, by the cases of the code's enum
 abbrev pub recordMeans : ScalarRecord → Recorded Float
 recordMeans ScalarRecord.None = noCurve
 recordMeans (ScalarRecord.Constant v) = always v
 recordMeans (ScalarRecord.List l) = listed (listMeans l) (l .length)
+
+abbrev pub pairMeans : CodePair → Pair
+pairMeans v = record { first = v .first; second = v .second }
+
+abbrev pub pairRecordMeans : PairRecord → Recorded Pair
+pairRecordMeans PairRecord.None = noCurve
+pairRecordMeans (PairRecord.Constant v) = always (pairMeans v)
+pairRecordMeans (PairRecord.List l) = listed (listMeans l) (l .length)
+
+-- one value, or the number
+abbrev pub pairAnswerMeans : PairAnswer → Verdict Pair
+pairAnswerMeans (PairAnswer.Value v) = answered (pairMeans v)
+pairAnswerMeans (PairAnswer.Refused n) = denied n

@@ -13,11 +13,11 @@ ghost use lib.Ieee.{Float};
 ghost use lib.ListN.{length, drop};
 ghost use Rattle.util.specs.Fixed.{fix1-19-12};
 ghost use Rattle.util.specs.Within.{Under};
-ghost use Rattle.curve.specs.Curve.{sampleCount, countedFrom, index, mix, mixCol, mixMat, sampleAt, numberBytes, numberOf, recorded};
-ghost use Rattle.curve.specs.CurveCode.{spotAt, formatMeans, listMeans, scalarCurve, InsideList, Inside, recordMeans};
+ghost use Rattle.curve.specs.Curve.{sampleCount, countedFrom, index, mix, mixCol, mixMat, sampleAt, numberBytes, numberOf, pairOf, pairAt, recorded};
+ghost use Rattle.curve.specs.CurveCode.{spotAt, formatMeans, listMeans, scalarCurve, pairCurve, InsideList, Inside, InsideOf, recordMeans, pairMeans, pairRecordMeans, pairAnswerMeans};
 ghost use Rattle.curve.specs.Curve as spec;
 
-// How the first number of a value is stored.
+// How the numbers of a value are stored.
 pub enum Number {
     Fix1_19_12,
     Fix1_3_12,
@@ -34,7 +34,7 @@ pub struct SampleList {
     pub end: u16,
 }
 
-// A constant is where its number stands.
+// A constant is where its value stands.
 pub enum ScalarCurve {
     None,
     Constant(usize),
@@ -46,6 +46,24 @@ pub enum ScalarRecord {
     None,
     Constant(f64),
     List(SampleList),
+}
+
+// One value of a scale. The first number is the one that is sampled.
+pub struct Pair {
+    pub first: f64,
+    pub second: f64,
+}
+
+// The record of a curve of pairs.
+pub enum PairRecord {
+    None,
+    Constant(Pair),
+    List(SampleList),
+}
+
+pub enum PairAnswer {
+    Value(Pair),
+    Refused(u8),
 }
 
 // The whole number below x, from its bits.
@@ -216,5 +234,69 @@ pub fn record_scalar(s: &[u8], c: ScalarCurve, entry: usize) -> ScalarRecord
         ScalarCurve::None => ScalarRecord::None,
         ScalarCurve::Constant(place) => ScalarRecord::Constant(constant(s, place)),
         ScalarCurve::Samples(l, _) => ScalarRecord::List(record_list(l, entry)),
+    }
+}
+
+// The bytes of a number.
+fn number_bytes(number: Number) -> usize
+    ensures { λ r. ⌜ (r ≡ numberBytes (formatMeans number)) × (r ≤ 4) ⌝ }
+{
+    match number {
+        Number::Fix1_19_12 => 4,
+        Number::Fix1_3_12 => 2,
+        Number::Fix1_10_5 => 2,
+    }
+}
+
+// Value k of a list of pairs that stands at `place`: its second number is the first of a list that stands a number further on.
+fn read_pair(s: &[u8], place: usize, size: u16, number: Number, k: usize) -> Pair
+    requires { ⌜ place + size * k + numberBytes (formatMeans number) * 2 ≤ length (now s) ⌝ }
+    ensures { λ r. ⌜ pairMeans r ≡ pairOf (formatMeans number) (drop (place + size * k) (now (s .entry))) ⌝ }
+{
+    let next = place + number_bytes(number);
+    let first = value(s, place, size, number, k);
+    let second = value(s, next, size, number, k);
+    Pair { first, second }
+}
+
+// A constant's pair.
+fn constant_pair(s: &[u8], place: usize) -> Pair
+    requires { ⌜ place + 8 ≤ length (now s) ⌝ }
+    ensures { λ r. ⌜ pairMeans r ≡ pairOf fix1-19-12 (drop place (now (s .entry))) ⌝ }
+{
+    read_pair(s, place, 8, Number::Fix1_19_12, 0)
+}
+
+// The pair at an index of those that a curve stores; 9 past them.
+pub fn pair_at(s: &[u8], c: ScalarCurve, index: usize) -> PairAnswer
+    requires { ⌜ InsideOf 2 (now s) c ⌝ }
+    ensures { λ r. ⌜ pairAnswerMeans r ≡ pairAt (pairCurve (now (s .entry)) c) index ⌝ }
+{
+    match c {
+        ScalarCurve::None => PairAnswer::Refused(9),
+        ScalarCurve::Constant(place) => {
+            if index >= 1 {
+                return PairAnswer::Refused(9);
+            }
+            PairAnswer::Value(constant_pair(s, place))
+        }
+        ScalarCurve::Samples(l, number) => {
+            if index >= l.length as usize {
+                return PairAnswer::Refused(9);
+            }
+            PairAnswer::Value(read_pair(s, l.place, l.size, number, index))
+        }
+    }
+}
+
+// The record of a curve of pairs, as `record_scalar` has it.
+pub fn record_pairs(s: &[u8], c: ScalarCurve, entry: usize) -> PairRecord
+    requires { ⌜ InsideOf 2 (now s) c × (entry + length (now s) < 18446744073709551616) ⌝ }
+    ensures { λ r. ⌜ pairRecordMeans r ≡ recorded entry (pairCurve (now (s .entry)) c) ⌝ }
+{
+    match c {
+        ScalarCurve::None => PairRecord::None,
+        ScalarCurve::Constant(place) => PairRecord::Constant(constant_pair(s, place)),
+        ScalarCurve::Samples(l, _) => PairRecord::List(record_list(l, entry)),
     }
 }

@@ -16,7 +16,9 @@ use words::put_name;
 use words::put_record;
 use words::put_resampling;
 use words::put_rotation;
+use words::put_scale;
 use words::put_sixteen;
+use words::put_value;
 ghost use mathlib.Core.Path.{_≡_};
 ghost use lib.ListN.{length};
 ghost use lib.Seq.{sets};
@@ -24,10 +26,10 @@ ghost use Rattle.util.specs.Reader.{told, number};
 ghost use Rattle.animation.specs.Animation.{translation, scale};
 ghost use Rattle.gltf.specs.Curve.{sliceOf};
 ghost use Rattle.nitro.specs.Container.{jnt, srt, pat};
-ghost use Rattle.calls.specs.Calls.{answer, on, ofObject, matrixBytes, curve, rotationCurve, resampled, ofMaterial, uvMatrix, channelCurve, materialName, ofPattern, chosen, textureNames, paletteNames, patternName, bytesAfter};
+ghost use Rattle.calls.specs.Calls.{answer, on, ofObject, matrixBytes, curve, scaleValue, rotationCurve, resampled, ofMaterial, uvMatrix, channelCurve, materialName, ofPattern, chosen, textureNames, paletteNames, patternName, bytesAfter};
 ghost use Rattle.calls.specs.Calls as calls;
 ghost use Rattle.listing.specs.Listing.{listing};
-ghost use Rattle.words.specs.Words.{Writes, nameWords, checked, recordWords, curveWords, curveFloats, oneFloat, nineFloats, sixteenFloats, listedWords, chosenWords, resampledWords, foundWords};
+ghost use Rattle.words.specs.Words.{Writes, nameWords, checked, recordWords, curveWords, curveFloats, oneFloat, twoFloats, nineFloats, sixteenFloats, listedWords, chosenWords, resampledWords, foundWords};
 
 // Whether an entry is whole: the number of its check.
 #[no_mangle]
@@ -92,11 +94,7 @@ pub extern "C" fn motion_translation_curve(
 ) -> u32
     ensures { λ r. ⌜ Writes curveWords (told (answer (on jnt entry (ofObject object (curve translation axis))) (now (s .entry)))) r (now (out .entry)) (now (out .exit)) × Writes (curveFloats oneFloat) (told (answer (on jnt entry (ofObject object (curve translation axis))) (now (s .entry)))) r (now (value .entry)) (now (value .exit)) ⌝ }
 {
-    put_curve(
-        jnt::curve(s, entry, object, Triple::Translation, axis),
-        out,
-        value,
-    )
+    put_curve(jnt::translation_curve(s, entry, object, axis), out, value)
 }
 
 // Likewise its rotation; a constant has nine floats, column by column.
@@ -113,7 +111,7 @@ pub extern "C" fn motion_rotation_curve(
     put_rotation(jnt::rotation_curve(s, entry, object), out, value)
 }
 
-// Likewise its scale.
+// Likewise its scale; a constant has two floats, its first and its second number.
 #[no_mangle]
 pub extern "C" fn motion_scale_curve(
     s: &[u8],
@@ -121,15 +119,26 @@ pub extern "C" fn motion_scale_curve(
     object: usize,
     axis: usize,
     out: &mut [u64; 6],
-    value: &mut [f64; 1],
+    value: &mut [f64; 2],
 ) -> u32
-    ensures { λ r. ⌜ Writes curveWords (told (answer (on jnt entry (ofObject object (curve scale axis))) (now (s .entry)))) r (now (out .entry)) (now (out .exit)) × Writes (curveFloats oneFloat) (told (answer (on jnt entry (ofObject object (curve scale axis))) (now (s .entry)))) r (now (value .entry)) (now (value .exit)) ⌝ }
+    ensures { λ r. ⌜ Writes curveWords (told (answer (on jnt entry (ofObject object (curve scale axis))) (now (s .entry)))) r (now (out .entry)) (now (out .exit)) × Writes (curveFloats twoFloats) (told (answer (on jnt entry (ofObject object (curve scale axis))) (now (s .entry)))) r (now (value .entry)) (now (value .exit)) ⌝ }
 {
-    put_curve(
-        jnt::curve(s, entry, object, Triple::Scale, axis),
-        out,
-        value,
-    )
+    put_scale(jnt::scale_curve(s, entry, object, axis), out, value)
+}
+
+// One value of a JNT0 object's scale: its first and its second number. The index counts the values that the curve stores; a constant has one.
+#[no_mangle]
+pub extern "C" fn motion_scale_value(
+    s: &[u8],
+    entry: usize,
+    object: usize,
+    axis: usize,
+    index: usize,
+    out: &mut [f64; 2],
+) -> u32
+    ensures { λ r. ⌜ Writes twoFloats (told (answer (on jnt entry (ofObject object (scaleValue axis index))) (now (s .entry)))) r (now (out .entry)) (now (out .exit)) ⌝ }
+{
+    put_value(jnt::scale_value(s, entry, object, axis, index), out)
 }
 
 // Likewise a channel of an SRT0 track.

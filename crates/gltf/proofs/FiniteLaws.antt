@@ -11,7 +11,7 @@ use Rattle.animation.proofs.FiniteLaws.{SizedAxes, axes-sized}
 use Rattle.gltf.specs.Curve.{framesOf, axesDomain, sampleAxes, resampleVec3}
 
 -- for a default of 0 or 1, below-zero or below-one is its p
-module _ (default : Float) (p : Small default) (a : Axes) (h : SizedAxes a) where
+module _ (default : Float) (p : Small default) (a : Axes) (h : SizedAxes Small a) where
   samples-finite : (frames : List ℕ) → Each Finite (sampleAxes default a frames)
   unfolding sampleAxes
   samples-finite [] = tt

@@ -17,7 +17,7 @@ use Rattle.curve.specs.declared.Number.{Number}
 use Rattle.curve.specs.declared.SampleList.{SampleList}
 use Rattle.curve.specs.declared.ScalarCurve.{ScalarCurve}
 use Rattle.curve.specs.declared.ScalarCurve.the-variants.{Samples}
-use Rattle.curve.specs.Curve.{ListRecord, Curve, constant, samples}
+use Rattle.curve.specs.Curve.{ListRecord, Curve, constant, samples, numberOf}
 use Rattle.curve.specs.CurveCode.{scalarCurve, listMeans, valuesIn, InsideList}
 use Rattle.curve.proofs.SampleLaws.{value-count}
 use Rattle.animation.specs.Animation.{Axes, axesAt}
@@ -68,7 +68,7 @@ constant-domain v d e = (e, subst Stepped (sym e) (lit< tt, lit≤ tt))
 
 pub list-counts : (s : List ℕ) (c : ScalarCurve) (l : SampleList) (number : Number) → c ≡ Samples l number → isEmpty (scalarCurve s c) ≡ false → 1 ≤ l .length
 list-counts s c l number q e =
-    let k = eqb-false (l .length) 0 (count-empty (listMeans l) (valuesIn s l number) (l .length) (value-count s l number) ∙ rw q at e) in
+    let k = eqb-false (l .length) 0 (count-empty (listMeans l) (valuesIn numberOf s l number) (l .length) (value-count numberOf s l number) ∙ rw q at e) in
     omega arith
 
 values-domain : {A : Type 0} (r : ListRecord) (vs : List A) (n : ℕ) → length vs ≡ n → 1 ≤ n → over (r .start) (r .end) ((r .end - r .start) / n) ≡ domain (samples r vs)
@@ -81,7 +81,7 @@ pub list-domain : (s : List ℕ) (l : SampleList) (number : Number) → InsideLi
 list-domain s l number i h d e =
     let k = i .frames in
     let q : 1 * l .length ≤ l .end - l .start = omega arith in
-    (e ∙ values-domain (listMeans l) (valuesIn s l number) (l .length) (value-count s l number) h, subst Stepped (sym e) (omega arith, le-div-iff-mul-le h .1 q))
+    (e ∙ values-domain (listMeans l) (valuesIn numberOf s l number) (l .length) (value-count numberOf s l number) h, subst Stepped (sym e) (omega arith, le-div-iff-mul-le h .1 q))
 
 union-stepped : (a b : Domain) → Stepped a → Stepped b → Stepped (union a b)
 unfolding union

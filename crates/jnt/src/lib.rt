@@ -4,24 +4,28 @@ mod opened;
 use crate::opened::ObjectOpen;
 use crate::opened::open_object;
 use animation::Triple;
-use animation::curves_of;
 use calls::MatrixAnswer;
+use curve::PairAnswer;
 use gltf::Resampling;
 use gltf::resample_triple;
 use trs::CurveRecord;
 use trs::RotationAnswer;
+use trs::ScaleRecord;
 use trs::object_at;
 use trs::record_axis;
 use trs::record_rotation;
+use trs::record_scale;
 use trs::sample_at;
 ghost use mathlib.Core.Path.{_≡_};
 ghost use Rattle.util.specs.Reader.{told};
+ghost use Rattle.curve.specs.CurveCode.{pairAnswerMeans};
+ghost use Rattle.animation.specs.Animation.{translation, scale};
 ghost use Rattle.animation.specs.AnimationCode.{tripleMeans};
-ghost use Rattle.trs.specs.TrsCode.{curveMeans, rotationAnswerMeans};
+ghost use Rattle.trs.specs.TrsCode.{curveMeans, scaleMeans, rotationAnswerMeans};
 ghost use Rattle.gltf.specs.CurveCode.{resamplingMeans};
 ghost use Rattle.gltf.specs.Curve.{sliceOf};
 ghost use Rattle.nitro.specs.Container.{jnt};
-ghost use Rattle.calls.specs.Calls.{answer, on, ofObject, rotationCurve, resampled};
+ghost use Rattle.calls.specs.Calls.{answer, on, ofObject, curve, scaleValue, rotationCurve, resampled};
 ghost use Rattle.calls.specs.Calls as calls;
 ghost use Rattle.calls.specs.AnswersCode.{matrixAnswerMeans};
 
@@ -39,16 +43,47 @@ pub fn matrix(s: &[u8], entry: usize, object: usize, frame: u16) -> MatrixAnswer
     }
 }
 
-// The record of an object's translation or scale curve on axis 0, 1 or 2.
-pub fn curve(s: &[u8], entry: usize, object: usize, which: Triple, axis: usize) -> CurveRecord
-    ensures { λ r. ⌜ curveMeans r ≡ told (answer (on jnt entry (ofObject object (calls.curve (tripleMeans which) axis))) (now (s .entry))) ⌝ }
+// The record of an object's translation curve on axis 0, 1 or 2.
+pub fn translation_curve(s: &[u8], entry: usize, object: usize, axis: usize) -> CurveRecord
+    ensures { λ r. ⌜ curveMeans r ≡ told (answer (on jnt entry (ofObject object (curve translation axis))) (now (s .entry))) ⌝ }
 {
     match open_object(s, entry, object) {
         ObjectOpen::Refused(n) => CurveRecord::Refused(n),
         ObjectOpen::At(off, a) => {
             let here = &s[off..];
             let c = object_at(here, a, object);
-            record_axis(here, curves_of(which, c), axis, off)
+            let trans = c.trans;
+            record_axis(here, trans, axis, off)
+        }
+    }
+}
+
+// Likewise of its scale; a constant has two numbers.
+pub fn scale_curve(s: &[u8], entry: usize, object: usize, axis: usize) -> ScaleRecord
+    ensures { λ r. ⌜ scaleMeans r ≡ told (answer (on jnt entry (ofObject object (curve scale axis))) (now (s .entry))) ⌝ }
+{
+    match open_object(s, entry, object) {
+        ObjectOpen::Refused(n) => ScaleRecord::Refused(n),
+        ObjectOpen::At(off, a) => {
+            let here = &s[off..];
+            let c = object_at(here, a, object);
+            let scale = c.scale;
+            record_scale(here, scale, axis, off)
+        }
+    }
+}
+
+// Both numbers of one value of an object's scale, by its axis and its index.
+pub fn scale_value(s: &[u8], entry: usize, object: usize, axis: usize, index: usize) -> PairAnswer
+    ensures { λ r. ⌜ pairAnswerMeans r ≡ told (answer (on jnt entry (ofObject object (scaleValue axis index))) (now (s .entry))) ⌝ }
+{
+    match open_object(s, entry, object) {
+        ObjectOpen::Refused(n) => PairAnswer::Refused(n),
+        ObjectOpen::At(off, a) => {
+            let here = &s[off..];
+            let c = object_at(here, a, object);
+            let curves = c.scale;
+            trs::scale_value(here, curves, axis, index)
         }
     }
 }

@@ -2,8 +2,8 @@
 // afterwards. The file stdout beside this folder holds what the Rust answers.
 //
 // The list is how many calls there are, in two bytes; each call in 32 bytes: its code, entry, object or track, axis or channel, the frame in
-// two bytes, the place and the room of a lent slice, a name of sixteen bytes, the section's place in the list and its length, four bytes
-// each; and then the sections.
+// two bytes, the place (or a value's index) and the room of a lent slice, a name of sixteen bytes, the section's place in the list and its
+// length, four bytes each; and then the sections.
 mod print;
 mod stored;
 

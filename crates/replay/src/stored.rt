@@ -14,6 +14,7 @@ use exports::motion_resample_scale;
 use exports::motion_resample_translation;
 use exports::motion_rotation_curve;
 use exports::motion_scale_curve;
+use exports::motion_scale_value;
 use exports::motion_texture_names;
 use exports::motion_translation_curve;
 use exports::motion_uv_matrix;
@@ -37,7 +38,7 @@ struct Call {
     // an axis or a channel
     part: usize,
     frame: u16,
-    // where a lent slice is written, and how much of it is lent
+    // where a lent slice is written, or the index of a value, and how much of the slice is lent
     place: usize,
     room: usize,
     name: [u8; 16],
@@ -124,7 +125,6 @@ fn curve(s: &[u8], c: Call, out: &mut [u64; 6], value: &mut [f64; 1]) -> u32 {
     let code = c.code;
     match code {
         2 => motion_translation_curve(s, c.entry, c.index, c.part, out, value),
-        4 => motion_scale_curve(s, c.entry, c.index, c.part, out, value),
         _ => motion_channel_curve(s, c.entry, c.index, c.part, out, value),
     }
 }
@@ -138,6 +138,27 @@ fn run_curve(s: &[u8], c: Call) {
     let mut value = [FLOAT; 1];
     let n = curve(s, c, &mut out, &mut value);
     print_curve(n, &out, &value);
+}
+
+fn print_scale(n: u32, out: &[u64; 6], value: &[f64; 2]) {
+    print(n, out, value, &[]);
+}
+
+fn run_scale(s: &[u8], c: Call) {
+    let mut out = [WORD; 6];
+    let mut value = [FLOAT; 2];
+    let n = motion_scale_curve(s, c.entry, c.index, c.part, &mut out, &mut value);
+    print_scale(n, &out, &value);
+}
+
+fn print_scale_value(n: u32, out: &[f64; 2]) {
+    print(n, &[], out, &[]);
+}
+
+fn run_scale_value(s: &[u8], c: Call) {
+    let mut out = [FLOAT; 2];
+    let n = motion_scale_value(s, c.entry, c.index, c.part, c.place, &mut out);
+    print_scale_value(n, &out);
 }
 
 fn print_rotation(n: u32, out: &[u64; 6], value: &[f64; 9]) {
@@ -204,12 +225,14 @@ pub fn run(s: &[u8], call: &[u8])
     let code = c.code;
     match code {
         0 => run_record(s, c),
-        2 | 4 | 5 => run_curve(s, c),
+        2 | 5 => run_curve(s, c),
         3 => run_rotation(s, c),
+        4 => run_scale(s, c),
         6 => run_uv(s, c),
         13 | 14 => run_resampling(s, c),
         15 => run_matrix(s, c),
         16 => print(motion_check(s, c.entry), &[], &[], &[]),
+        17 => run_scale_value(s, c),
         _ => run_two(s, c),
     }
 }

@@ -1,17 +1,19 @@
 -- Objects of a whole entry, and the matrices of a rotation. Assumes nothing.
 use Prim.Native.Nat.{ℕ, _+_, _*_, _≤_, _<_}
-use mathlib.Core.List.{List, map}
+use mathlib.Core.List.{List, [], _∷_, map}
 use mathlib.Core.Path.{_≡_, refl, sym, ap, subst, _∙_}
 use native.Mathlib.Nat.{add-zero}
 use native.Mathlib.Omega.{arith}
+use borrow.Author.Tests.{lt-ltb, le-ltb}
 use lib.ListN.{length, take, drop, getD}
 use Rattle.util.specs.Bits.{bits}
 use Rattle.util.specs.Fixed.{fix1-3-12, fixed}
 use Rattle.util.specs.View.{little, wordAt, view}
 use Rattle.util.specs.declared.cur.Reach.{Reach}
 use Rattle.util.specs.declared.cur.Reach.the-variants.{Whole, Refused}
-use Rattle.util.specs.Reader.{Reader, accepted, run}
+use Rattle.util.specs.Reader.{Reader, accepted, run, Verdict, denied}
 use Rattle.util.specs.ReaderCode.{reached}
+use Rattle.util.proofs.All.{each-at}
 use Rattle.util.proofs.Each.{each-read}
 use Rattle.util.proofs.ReadsLaws.{not-both}
 use Rattle.util.proofs.ViewLaws.{map-at, view-length, view-there, word-part}
@@ -19,13 +21,17 @@ use Rattle.animation.proofs.RotationLaws.{reference-count}
 use Rattle.matrix.specs.declared.Mat3.{Mat3}
 use Rattle.rotation.specs.Rotation.{pivotMat, basisMat}
 use Rattle.curve.specs.declared.SampleList.{SampleList}
+use Rattle.curve.specs.declared.ScalarCurve.{ScalarCurve}
+use Rattle.curve.specs.Curve.{Curve, none}
 use Rattle.animation.specs.declared.Animation.{Animation as Known}
+use Rattle.animation.specs.declared.AxisCurves.{AxisCurves}
 use Rattle.animation.specs.declared.Tables.{Tables}
 use Rattle.animation.specs.declared.TRSCurves.{TRSCurves}
 use Rattle.animation.specs.declared.ObjectRead.{ObjectRead}
-use Rattle.animation.specs.Animation.{Object, stillObject, object, pivotOf, basisOf}
+use Rattle.animation.specs.Animation.{Object, stillObject, onAxis, object, pivotOf, basisOf}
 use Rattle.animation.specs.AnimationCode.{tablesAt, objectCurves, ObjectReads, WholeAnimation, matrixFor, referenceEnd, references, InsideReferences}
-use Rattle.trs.specs.TrsCode.{ObjectStands}
+use Rattle.trs.specs.declared.AxisCurve.{AxisCurve}
+use Rattle.trs.specs.TrsCode.{ObjectStands, AxisIs}
 
 -- the object at an offset of the entry s
 abbrev at : List ℕ → ℕ → Reader Object
@@ -55,6 +61,23 @@ module _ (s : List ℕ) (a : Known) (w : WholeAnimation s a) (o : ℕ) (h : o < 
       go : (x : Reach) → run (at s (wordAt 2 s (20 + 2 * o))) s 0 ≡ reached x (objectCurves (tablesAt s) s (r .curves)) → ObjectStands s o (r .curves)
       go (Whole m) e = record { reach = m; reads = e; inside = here .holds .inside }
       go (Refused n) e = absurd (not-both (object-whole s a w o stillObject h .1) e)
+
+-- ---- one of three axes
+
+module _ (a : AxisCurves) (axis : ℕ) where
+  -- what holds of the three curves holds of this one
+  pub axis-holds : (P : ScalarCurve → Type 0) → P (a .x) → P (a .y) → P (a .z) → (c : ScalarCurve) → AxisIs a axis (AxisCurve.Of c) → P c
+  axis-holds P x y z c h = subst P (sym (h .1)) (each-at P (a .x ∷ a .y ∷ a .z ∷ []) ScalarCurve.None (x, (y, (z, tt))) axis (h .0))
+
+  module _ {A B : Type 0} (curve : ScalarCurve → Curve A) (f : Curve A → Verdict B) where
+    abbrev asked : Verdict B
+    asked = onAxis (record { x = curve (a .x); y = curve (a .y); z = curve (a .z) }) axis f
+
+    pub on-axis : (c : ScalarCurve) → AxisIs a axis (AxisCurve.Of c) → f (curve c) ≡ asked
+    on-axis c h = rw (lt-ltb axis 3 (h .0), map-at curve (a .x ∷ a .y ∷ a .z ∷ []) axis ScalarCurve.None none (h .0), h .1) refl
+
+    pub past-axes : (n : ℕ) → AxisIs a axis (AxisCurve.Refused n) → denied n ≡ asked
+    past-axes n h = rw (le-ltb axis 3 (h .0), h .1) refl
 
 -- ---- rotations
 

@@ -6,11 +6,16 @@ use animation::TRSCurves;
 use animation::Tables;
 use animation::read_object;
 use animation::refer;
+use curve::PairAnswer;
+use curve::PairRecord;
 use curve::SampleList;
+use curve::ScalarCurve;
 use curve::ScalarRecord;
 use curve::lerp_mat;
 use curve::locate;
+use curve::pair_at;
 use curve::record_list;
+use curve::record_pairs;
 use curve::record_scalar;
 use curve::sample_scalar;
 use matrix::Col3;
@@ -27,12 +32,14 @@ ghost use mathlib.Core.Path.{_≡_};
 ghost use mathlib.Core.List.{map};
 ghost use Prim.Native.Nat.{_+_, _<_, _≤_};
 ghost use lib.ListN.{length, take, drop, getD};
-ghost use Rattle.curve.specs.Curve.{recorded, mixMat, sampleAt};
+ghost use Rattle.util.specs.Reader.{answered};
+ghost use Rattle.curve.specs.Curve.{pairAt, recorded, mixMat, sampleAt};
+ghost use Rattle.curve.specs.CurveCode.{pairAnswerMeans};
 ghost use Rattle.matrix.specs.declared.Mat3 as mat3;
 ghost use Rattle.matrix.specs.Matrix.{identity3};
-ghost use Rattle.animation.specs.Animation.{pivotOf, basisOf, axesAt, matrixAt};
-ghost use Rattle.animation.specs.AnimationCode.{WholeAnimation, matrixFor, referenceEnd, references, rotationCurve, axisCurves, objectCurves, InsideAxes, InsideReferences, InsideRotation, InsideObject};
-ghost use Rattle.trs.specs.TrsCode.{ObjectStands, curveMeans, rotationRecordMeans, recordedAxis};
+ghost use Rattle.animation.specs.Animation.{onAxis, scale, pivotOf, basisOf, axesAt, matrixAt};
+ghost use Rattle.animation.specs.AnimationCode.{WholeAnimation, matrixFor, referenceEnd, references, rotationCurve, tripleCurves, axisCurves, objectCurves, InsideTriple, InsideAxes, InsideReferences, InsideRotation, InsideObject};
+ghost use Rattle.trs.specs.TrsCode.{ObjectStands, AxisIs, curveMeans, scaleMeans, rotationRecordMeans};
 
 // The curves of object o of a whole entry.
 pub fn object_at(s: &[u8], a: Animation, o: usize) -> TRSCurves
@@ -43,29 +50,71 @@ pub fn object_at(s: &[u8], a: Animation, o: usize) -> TRSCurves
     r.curves
 }
 
+pub enum AxisCurve {
+    Of(ScalarCurve),
+    Refused(u8),
+}
+
+// The curve of axis 0, 1 or 2; 9 past them.
+fn axis_curve(a: AxisCurves, axis: usize) -> AxisCurve
+    ensures { λ r. ⌜ AxisIs a axis r ⌝ }
+{
+    if axis == 0 {
+        let c = a.x;
+        return AxisCurve::Of(c);
+    }
+    if axis == 1 {
+        let c = a.y;
+        return AxisCurve::Of(c);
+    }
+    if axis == 2 {
+        let c = a.z;
+        return AxisCurve::Of(c);
+    }
+    AxisCurve::Refused(9)
+}
+
 pub enum CurveRecord {
     Curve(ScalarRecord),
     Refused(u8),
 }
 
-// The record of axis 0, 1 or 2, in an entry that stands at `entry`.
+// The record of an axis of numbers, in an entry that stands at `entry`.
 pub fn record_axis(s: &[u8], a: AxisCurves, axis: usize, entry: usize) -> CurveRecord
     requires { ⌜ InsideAxes (now s) a × (entry + length (now s) < 18446744073709551616) ⌝ }
-    ensures { λ r. ⌜ curveMeans r ≡ recordedAxis (axisCurves (now (s .entry)) a) axis entry ⌝ }
+    ensures { λ r. ⌜ curveMeans r ≡ onAxis (axisCurves (now (s .entry)) a) axis (λ c. answered (recorded entry c)) ⌝ }
 {
-    if axis == 0 {
-        let c = a.x;
-        return CurveRecord::Curve(record_scalar(s, c, entry));
+    match axis_curve(a, axis) {
+        AxisCurve::Refused(n) => CurveRecord::Refused(n),
+        AxisCurve::Of(c) => CurveRecord::Curve(record_scalar(s, c, entry)),
     }
-    if axis == 1 {
-        let c = a.y;
-        return CurveRecord::Curve(record_scalar(s, c, entry));
+}
+
+pub enum ScaleRecord {
+    Curve(PairRecord),
+    Refused(u8),
+}
+
+// Likewise of an axis of a scale.
+pub fn record_scale(s: &[u8], a: AxisCurves, axis: usize, entry: usize) -> ScaleRecord
+    requires { ⌜ InsideTriple scale (now s) a × (entry + length (now s) < 18446744073709551616) ⌝ }
+    ensures { λ r. ⌜ scaleMeans r ≡ onAxis (tripleCurves scale (now (s .entry)) a) axis (λ c. answered (recorded entry c)) ⌝ }
+{
+    match axis_curve(a, axis) {
+        AxisCurve::Refused(n) => ScaleRecord::Refused(n),
+        AxisCurve::Of(c) => ScaleRecord::Curve(record_pairs(s, c, entry)),
     }
-    if axis == 2 {
-        let c = a.z;
-        return CurveRecord::Curve(record_scalar(s, c, entry));
+}
+
+// One value of an axis of a scale.
+pub fn scale_value(s: &[u8], a: AxisCurves, axis: usize, index: usize) -> PairAnswer
+    requires { ⌜ InsideTriple scale (now s) a ⌝ }
+    ensures { λ r. ⌜ pairAnswerMeans r ≡ onAxis (tripleCurves scale (now (s .entry)) a) axis (λ c. pairAt c index) ⌝ }
+{
+    match axis_curve(a, axis) {
+        AxisCurve::Refused(n) => PairAnswer::Refused(n),
+        AxisCurve::Of(c) => pair_at(s, c, index),
     }
-    CurveRecord::Refused(9)
 }
 
 pub enum RotationRecord {

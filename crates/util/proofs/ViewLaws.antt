@@ -116,6 +116,12 @@ module _ {A : Type 0} (size : ℕ) (read : List ℕ → A) where
       let q : size * suc n ≡ size + size * n = mul-suc size n ∙ add-comm (size * n) size in
       rw q (rw (take-take size (size + size * n) bs (omega arith), drop-take size (size * n) bs, view-take n (drop size bs)) refl)
 
+-- what f gives for each item
+pub view-map : {A B : Type 0} (f : A → B) (size : ℕ) (read : List ℕ → A) (n : ℕ) (bs : List ℕ) → map f (view size read n bs) ≡ view size (λ item. f (read item)) n bs
+unfolding view
+view-map f size read zero bs = refl
+view-map f size read (suc n) bs = ap (λ (l : List _). f (read (take size bs)) ∷ l) (view-map f size read n (drop size bs))
+
 -- ---- the first bytes, compared from the last on
 
 module _ (s b : List ℕ) (k n : ℕ) (h : n < k) where

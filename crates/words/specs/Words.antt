@@ -10,7 +10,7 @@ use Rattle.util.specs.Reader.{Outcome, accepted, refused, Verdict, answered, de
 use Rattle.matrix.specs.declared.Mat3.{Mat3}
 use Rattle.matrix.specs.declared.Mat4.{Mat4}
 use Rattle.info_block.specs.Name.{Name}
-use Rattle.curve.specs.Curve.{Recorded, noCurve, always, listed}
+use Rattle.curve.specs.Curve.{Pair, Recorded, noCurve, always, listed}
 use Rattle.nitro.specs.Container.{EntryRecord}
 use Rattle.gltf.specs.Curve.{Span, noSpan, span, Resampled}
 use Rattle.calls.specs.Calls.{Listed, Chosen}
@@ -54,6 +54,10 @@ curveFloats floats (listed l n) = []
 
 abbrev pub oneFloat : Float → List Float
 oneFloat x = x ∷ []
+
+-- the first and the second number
+abbrev pub twoFloats : Pair → List Float
+twoFloats v = v .first ∷ v .second ∷ []
 
 -- column by column
 abbrev pub nineFloats : Mat3 → List Float

@@ -3,6 +3,9 @@ use calls::ChoiceAnswer;
 use calls::Found;
 use calls::ListAnswer;
 use calls::MatrixAnswer;
+use curve::Pair;
+use curve::PairAnswer;
+use curve::PairRecord;
 use curve::SampleList;
 use curve::ScalarRecord;
 use gltf::Resampling;
@@ -12,18 +15,19 @@ use nitro::entry::EntryCheck;
 use trs::CurveRecord;
 use trs::RotationAnswer;
 use trs::RotationRecord;
+use trs::ScaleRecord;
 ghost use mathlib.Core.Path.{_≡_};
 ghost use mathlib.Core.List.{List};
 ghost use lib.Ieee.{Float};
 ghost use lib.Seq.{sets};
 ghost use Rattle.curve.specs.Curve.{listed};
-ghost use Rattle.curve.specs.CurveCode.{listMeans, recordMeans};
+ghost use Rattle.curve.specs.CurveCode.{listMeans, recordMeans, pairMeans, pairRecordMeans, pairAnswerMeans};
 ghost use Rattle.info_block.specs.NameCode.{nameAnswerMeans};
-ghost use Rattle.trs.specs.TrsCode.{curveMeans, rotationRecordMeans, rotationAnswerMeans};
+ghost use Rattle.trs.specs.TrsCode.{curveMeans, scaleMeans, rotationRecordMeans, rotationAnswerMeans};
 ghost use Rattle.nitro.specs.EntryCode.{checkMeans};
 ghost use Rattle.gltf.specs.CurveCode.{resamplingMeans};
 ghost use Rattle.calls.specs.AnswersCode.{listAnswerMeans, choiceAnswerMeans, matrixAnswerMeans, foundMeans};
-ghost use Rattle.words.specs.Words.{Writes, nameWords, checked, recordWords, curveWords, curveFloats, oneFloat, nineFloats, sixteenFloats, listedWords, chosenWords, resampledWords, foundWords};
+ghost use Rattle.words.specs.Words.{Writes, nameWords, checked, recordWords, curveWords, curveFloats, oneFloat, twoFloats, nineFloats, sixteenFloats, listedWords, chosenWords, resampledWords, foundWords};
 
 // The record of an entry.
 pub fn put_record(c: EntryCheck, out: &mut [u64; 5]) -> u32
@@ -96,6 +100,56 @@ pub fn put_curve(c: CurveRecord, out: &mut [u64; 6], value: &mut [f64; 1]) -> u3
         CurveRecord::Refused(n) => n as u32,
         CurveRecord::Curve(r) => {
             put_scalar(r, out, value);
+            0
+        }
+    }
+}
+
+// The two numbers of a scale's value.
+fn put_two(v: Pair, out: &mut [f64; 2])
+    ensures { λ _. ⌜ now (out .exit) ≡ sets (now (out .entry)) 0 (twoFloats (pairMeans v)) ⌝ }
+{
+    out[0] = v.first;
+    out[1] = v.second;
+}
+
+// A curve of pairs.
+fn put_pairs(r: PairRecord, out: &mut [u64; 6], value: &mut [f64; 2])
+    ensures { λ _. ⌜ (now (out .exit) ≡ sets (now (out .entry)) 0 (curveWords (pairRecordMeans r))) × (now (value .exit) ≡ sets (now (value .entry)) 0 (curveFloats twoFloats (pairRecordMeans r))) ⌝ }
+{
+    match r {
+        PairRecord::None => {
+            out[0] = 0;
+        }
+        PairRecord::Constant(v) => {
+            out[0] = 1;
+            put_two(v, value);
+        }
+        PairRecord::List(l) => put_samples(l, out),
+    }
+}
+
+// The record of a scale's curve.
+pub fn put_scale(c: ScaleRecord, out: &mut [u64; 6], value: &mut [f64; 2]) -> u32
+    ensures { λ r. ⌜ Writes curveWords (scaleMeans c) r (now (out .entry)) (now (out .exit)) × Writes (curveFloats twoFloats) (scaleMeans c) r (now (value .entry)) (now (value .exit)) ⌝ }
+{
+    match c {
+        ScaleRecord::Refused(n) => n as u32,
+        ScaleRecord::Curve(r) => {
+            put_pairs(r, out, value);
+            0
+        }
+    }
+}
+
+// One value of a scale.
+pub fn put_value(a: PairAnswer, out: &mut [f64; 2]) -> u32
+    ensures { λ r. ⌜ Writes twoFloats (pairAnswerMeans a) r (now (out .entry)) (now (out .exit)) ⌝ }
+{
+    match a {
+        PairAnswer::Refused(n) => n as u32,
+        PairAnswer::Value(v) => {
+            put_two(v, out);
             0
         }
     }

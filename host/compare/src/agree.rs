@@ -24,6 +24,8 @@ pub struct Counts {
     pub matrices: usize,
     pub choices: usize,
     pub curves: usize,
+    /// Values of scales, both numbers of each.
+    pub pairs: usize,
     pub resampled: usize,
     pub cuts: usize,
 }
@@ -70,6 +72,8 @@ pub fn section(s: &[u8], rng: &mut Rng, counts: &mut Counts) -> Agreed {
             agree!(motion::check(s, 0), Err(Refusal(n)), "the check in a refused section");
             agree!(motion::number(s, 7), n, "the number of a check in a refused section");
             agree!(motion::list(s), format!("answer={n}\n"), "the listing of a refused section");
+            let number = if s.len() < 4 || s.starts_with(b"JNT0") { n } else { 1 };
+            agree!(motion::scale_value(s, 0, 0, 0, 0), Err(Refusal(number)), "a scale's value in a refused section");
             counts.refused[n as usize] += 1;
             return Ok(());
         }
@@ -80,6 +84,8 @@ pub fn section(s: &[u8], rng: &mut Rng, counts: &mut Counts) -> Agreed {
     totals(s, &read)?;
     agree!(motion::check(s, read.len()), Err(Refusal(9)), "the entry after the last");
     agree!(motion::check(s, usize::MAX), Err(Refusal(9)), "the last index there is");
+    let number = if s.starts_with(b"JNT0") { 9 } else { 1 };
+    agree!(motion::scale_value(s, read.len(), 0, 0, 0), Err(Refusal(number)), "a scale's value of the entry after the last");
     for (i, e) in read.into_iter().enumerate() {
         entry(s, i, e, rng, counts).map_err(|m| format!("entry {i}: {m}"))?;
     }
@@ -146,6 +152,7 @@ fn entry(s: &[u8], i: usize, e: Entry, rng: &mut Rng, counts: &mut Counts) -> Ag
             let mut out = before.clone();
             agree!(motion::matrix_bytes(s, i, 0, 0, &mut out), Err(refusal), "the matrix of a refused entry");
             agree!(out, before, "the slice of a refused matrix");
+            agree!(motion::scale_value(s, i, 0, 0, 0), Err(refusal), "a scale's value of a refused entry");
             for resample in [motion::resample_translation, motion::resample_scale] {
                 let before = fill::floats(rng, 8);
                 let mut out = before.clone();
@@ -166,6 +173,7 @@ fn entry(s: &[u8], i: usize, e: Entry, rng: &mut Rng, counts: &mut Counts) -> Ag
         Value::Jnt(a) => {
             agree!((record.frames, record.count), (a.num_frames, a.objects_curves.len()), "frames and objects");
             agree!(motion::matrix(s, i, record.count, 0), Err(Refusal(9)), "the object after the last");
+            agree!(motion::scale_value(s, i, record.count, 0, 0), Err(Refusal(9)), "a scale's value of the object after the last");
             for (o, curves) in a.objects_curves.into_iter().enumerate() {
                 object(s, i, o, e.offset, curves, rng, counts).map_err(|m| format!("object {o}: {m}"))?;
             }
@@ -304,6 +312,49 @@ fn rotation(
     }
 }
 
+/// A curve of pairs by its first numbers, which the Rust has too.
+fn first(c: motion::Curve<motion::Pair>) -> motion::Curve<f64> {
+    match c {
+        motion::Curve::None => motion::Curve::None,
+        motion::Curve::Constant(v) => motion::Curve::Constant(v.first),
+        motion::Curve::List(l) => motion::Curve::List(l),
+    }
+}
+
+fn both(v: motion::Pair) -> [u64; 2] {
+    [v.first, v.second].map(f64::to_bits)
+}
+
+/// The values of a scale's axis: each pair as the layout has it, its first number as the Rust has it, and 9 past them.
+fn pairs(
+    s: &[u8],
+    i: usize,
+    o: usize,
+    axis: usize,
+    ours: motion::Result<motion::Curve<motion::Pair>>,
+    stored: &[motion::Pair],
+    theirs: &Curve<f64>,
+) -> Agreed {
+    let firsts: Vec<u64> = match theirs {
+        Curve::None => vec![],
+        Curve::Constant(x) => vec![x.to_bits()],
+        Curve::Samples { values, .. } => values.iter().map(|x| x.to_bits()).collect(),
+    };
+    agree!(stored.len(), firsts.len(), "how many values the layout has");
+    if let Ok(motion::Curve::Constant(v)) = ours {
+        agree!(both(v), both(stored[0]), "the constant's two numbers, as the layout has them");
+    }
+    for (k, (&pair, &x)) in stored.iter().zip(&firsts).enumerate() {
+        let v = motion::scale_value(s, i, o, axis, k).map(both);
+        agree!(v, Ok(both(pair)), "the numbers of value {k}, as the layout has them");
+        agree!(v.map(|b| b[0]), Ok(x), "the first number of value {k}");
+    }
+    for past in [stored.len(), stored.len() + 1, usize::MAX] {
+        agree!(motion::scale_value(s, i, o, axis, past), Err(Refusal(9)), "value {past}, past the last");
+    }
+    Ok(())
+}
+
 fn ends<T>(c: &Curve<T>) -> Vec<u16> {
     match c {
         Curve::Samples { start_frame, end_frame, .. } => vec![*start_frame, (*start_frame + *end_frame) / 2, *end_frame],
@@ -317,14 +368,21 @@ fn object(s: &[u8], i: usize, o: usize, offset: usize, curves: TRSCurves, rng: &
         |s: &[u8], p: usize, size: usize| if size == 4 { fix32(word32(s, p), 1, 19, 12) } else { fix16(word16(s, p), 1, 3, 12) };
     let scale = |s: &[u8], p: usize, size: usize| if size == 8 { fix32(word32(s, p), 1, 19, 12) } else { fix16(word16(s, p), 1, 3, 12) };
     let lists = layout::object(s, i, o);
+    let stored = layout::scale(s, i, o);
     for axis in 0..3 {
         scalar(s, motion::translation_curve(s, i, o, axis), &curves.trans[axis], lists[axis], &translation)
             .map_err(|m| format!("translation {axis}: {m}"))?;
-        scalar(s, motion::scale_curve(s, i, o, axis), &curves.scale[axis], lists[4 + axis], &scale)
-            .map_err(|m| format!("scale {axis}: {m}"))?;
+        let ours = motion::scale_curve(s, i, o, axis);
+        scalar(s, ours.map(first), &curves.scale[axis], lists[4 + axis], &scale).map_err(|m| format!("scale {axis}: {m}"))?;
+        pairs(s, i, o, axis, ours, &stored[axis], &curves.scale[axis]).map_err(|m| format!("scale {axis}: {m}"))?;
+        counts.pairs += stored[axis].len();
         counts.curves += 2;
     }
-    agree!(motion::translation_curve(s, i, o, 3), Err(Refusal(9)), "axis 3");
+    for axis in [3, usize::MAX] {
+        agree!(motion::translation_curve(s, i, o, axis), Err(Refusal(9)), "translation axis {axis}");
+        agree!(motion::scale_curve(s, i, o, axis), Err(Refusal(9)), "scale axis {axis}");
+        agree!(motion::scale_value(s, i, o, axis, 0), Err(Refusal(9)), "a value of scale axis {axis}");
+    }
     rotation(s, offset, motion::rotation_curve(s, i, o), &curves.rotation, lists[3])?;
     counts.curves += 1;
 

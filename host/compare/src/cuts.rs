@@ -59,7 +59,10 @@ fn answers(s: &[u8], i: usize, count: usize, fill: &Fill) -> Result<Vec<Answer>,
         }
         for axis in 0..4 {
             all.push(words(motion::translation_curve(s, i, k, axis), |c| curve(c, |x| vec![x.to_bits()])));
-            all.push(words(motion::scale_curve(s, i, k, axis), |c| curve(c, |x| vec![x.to_bits()])));
+            all.push(words(motion::scale_curve(s, i, k, axis), |c| curve(c, |v| floats(&[v.first, v.second]))));
+            for index in [0, 1, 6] {
+                all.push(words(motion::scale_value(s, i, k, axis, index), |v| floats(&[v.first, v.second])));
+            }
             all.push(words(motion::channel_curve(s, i, k, axis + 2), |c| curve(c, |x| vec![x.to_bits()])));
         }
         all.push(words(motion::rotation_curve(s, i, k), |c| curve(c, |m| floats(m.as_flattened()))));

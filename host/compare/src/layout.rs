@@ -1,5 +1,5 @@
-//! Where the lists of an accepted entry stand, and the bytes of each value: a reading of the bytes by document 01's layout, beside the Rust,
-//! which keeps neither.
+//! Where the lists of an accepted entry stand, the bytes of each value, and the pairs of a scale: a reading of the bytes by document 01's
+//! layout, beside the Rust, which keeps none of them.
 
 fn word16(s: &[u8], p: usize) -> usize {
     u16::from_le_bytes([s[p], s[p + 1]]) as usize
@@ -38,17 +38,33 @@ pub fn front(name: &[u8; 16]) -> &[u8] {
     name.split(|&b| b == 0).next().unwrap()
 }
 
+/// Where the values of a curve stand in the section, the bytes of each, and how many there are.
+#[derive(Clone, Copy)]
+enum Values {
+    None,
+    Constant(usize),
+    List(usize, usize, usize),
+}
+
 /// A list's place in the section, and the bytes of each value; none for a constant or no curve.
 pub type List = Option<(usize, usize)>;
 
-/// The curves of a JNT0 object: three of its translation, the rotation, three of its scale.
+/// The lists of a JNT0 object: three of its translation, the rotation, three of its scale.
 pub fn object(s: &[u8], i: usize, o: usize) -> [List; 7] {
+    values(s, i, o).map(|v| match v {
+        Values::List(place, size, _) => Some((place, size)),
+        _ => None,
+    })
+}
+
+/// The values of the same seven curves.
+fn values(s: &[u8], i: usize, o: usize) -> [Values; 7] {
     let e = entry(s, i);
     let p = e + word16(s, e + 20 + 2 * o);
     let flags = word16(s, p);
     let mut at = p + 4;
-    let mut lists = [None; 7];
-    for (k, list) in lists.iter_mut().enumerate() {
+    let mut curves = [Values::None; 7];
+    for (k, curve) in curves.iter_mut().enumerate() {
         let (left_out, constant, numbers) = match k {
             0..=2 => (bits(flags, 1, 2), 3 + k, 1),
             3 => (bits(flags, 6, 7), 8, 1),
@@ -58,14 +74,33 @@ pub fn object(s: &[u8], i: usize, o: usize) -> [List; 7] {
             continue;
         }
         if bits(flags, constant, constant) == 1 {
+            *curve = Values::Constant(at);
             at += 4 * numbers;
             continue;
         }
-        let size = if k == 3 || bits(word32(s, at), 28, 29) != 0 { 2 } else { 4 };
-        *list = Some((e + word32(s, at + 4), numbers * size));
+        let word = word32(s, at);
+        let size = if k == 3 || bits(word, 28, 29) != 0 { 2 } else { 4 };
+        let count = (bits(word, 16, 27) - bits(word, 0, 15)) >> bits(word, 30, 31);
+        *curve = Values::List(e + word32(s, at + 4), numbers * size, count);
         at += 8;
     }
-    lists
+    curves
+}
+
+/// The pairs that each axis of an object's scale stores: signed numbers of 32 or 16 bits, over 4096. The Rust drops the second of each.
+pub fn scale(s: &[u8], i: usize, o: usize) -> [Vec<motion::Pair>; 3] {
+    let long = |p: usize| word32(s, p) as i32 as f64 / 4096.0;
+    let short = |p: usize| word16(s, p) as i16 as f64 / 4096.0;
+    let pair = |p: usize, size: usize| match size {
+        8 => motion::Pair { first: long(p), second: long(p + 4) },
+        _ => motion::Pair { first: short(p), second: short(p + 2) },
+    };
+    let curves = values(s, i, o);
+    [4, 5, 6].map(|k| match curves[k] {
+        Values::None => vec![],
+        Values::Constant(place) => vec![pair(place, 8)],
+        Values::List(place, size, count) => (0..count).map(|n| pair(place + size * n, size)).collect(),
+    })
 }
 
 /// A channel of an SRT0 track that carries a list.

@@ -150,6 +150,11 @@ fn main() {
         run.section("names", &s);
         run.cuts(&s);
     }
+    // scales of every format
+    for s in sections::scaled() {
+        run.section("scales", &s);
+        run.cuts(&s);
+    }
     // the longest lists there are
     for s in [sections::walk_cycle(1, 4095), sections::scroll(1, 65535)] {
         run.section("longest lists", &s);
@@ -157,8 +162,8 @@ fn main() {
     let c = &run.counts;
     eprintln!();
     println!(
-        "agreed: {} sections, {} entries ({} accepted), {} names looked for, {} matrices, {} choices, {} curves, {} resampled lists, {} cuts",
-        c.sections, c.entries, c.accepted, c.names, c.matrices, c.choices, c.curves, c.resampled, c.cuts
+        "agreed: {} sections, {} entries ({} accepted), {} names looked for, {} matrices, {} choices, {} curves, {} scale values, {} resampled lists, {} cuts",
+        c.sections, c.entries, c.accepted, c.names, c.matrices, c.choices, c.curves, c.pairs, c.resampled, c.cuts
     );
     let refused: Vec<_> = (1..14).filter(|&n| c.refused[n] > 0).map(|n| format!("{n}: {}", c.refused[n])).collect();
     println!("sections and entries refused with each number: {}", refused.join(", "));

@@ -1,10 +1,10 @@
 //! The stored list that crates/replay runs with no Rust at hand: sections with calls on them, and what the Rust answers to each.
 //!
 //! The list is how many calls there are, in two bytes; each call in 32 bytes: its code, entry, object or track, axis or channel, the frame in
-//! two bytes, the place and the room of a lent slice, a name of sixteen bytes, the section's place in the list and its length, four bytes
-//! each; and then the sections. An answer is a line: the number, then every word and every float's bits that the call was lent, as they
-//! stand afterwards, in sixteen hex digits, and every byte in two. Where the Rust's answer is one of the intended differences (9 to 12),
-//! document 01's number stands.
+//! two bytes, the place (or a value's index) and the room of a lent slice, a name of sixteen bytes, the section's place in the list and its
+//! length, four bytes each; and then the sections. An answer is a line: the number, then every word and every float's bits that the call was
+//! lent, as they stand afterwards, in sixteen hex digits, and every byte in two. Where the Rust's answer is one of the intended differences
+//! (9 to 12), document 01's number stands; the second number of a scale's value, which the Rust drops, is read from the bytes by the layout.
 use crate::layout;
 use crate::oracle::{self, Entry, Value};
 use crate::rng::Rng;
@@ -40,6 +40,7 @@ const RESAMPLE_TRANSLATION: u8 = 13;
 const RESAMPLE_SCALE: u8 = 14;
 const MATRIX: u8 = 15;
 const CHECK: u8 = 16;
+const SCALE_VALUE: u8 = 17;
 
 /// What stands in the words and floats before a call, and in the bytes. No answer is such a word or float.
 const FILL: u64 = 0x5555_5555_5555_5555;
@@ -80,7 +81,9 @@ impl Call {
     fn lent(&self) -> Lent {
         let (words, floats, bytes) = match self.code {
             RECORD => (5, 0, 0),
-            TRANSLATION | SCALE | CHANNEL => (6, 1, 0),
+            TRANSLATION | CHANNEL => (6, 1, 0),
+            SCALE => (6, 2, 0),
+            SCALE_VALUE => (0, 2, 0),
             ROTATION => (6, 9, 0),
             UV => (0, 16, 0),
             RESAMPLE_TRANSLATION | RESAMPLE_SCALE => (4, 40, 0),
@@ -169,7 +172,16 @@ fn answer(s: &[u8], call: &Call, lent: &mut Lent) -> Result<(), u32> {
             let lists = layout::object(s, at, index);
             match call.code {
                 TRANSLATION => put_curve(lent, curves.trans.get(part).ok_or(9u32)?, lists[part], |x| vec![x.to_bits()]),
-                SCALE => put_curve(lent, curves.scale.get(part).ok_or(9u32)?, lists[4 + part], |x| vec![x.to_bits()]),
+                SCALE => {
+                    let curve = curves.scale.get(part).ok_or(9u32)?;
+                    let stored = &layout::scale(s, at, index)[part];
+                    put_curve(lent, curve, lists[4 + part], |x| vec![x.to_bits(), stored[0].second.to_bits()]);
+                }
+                SCALE_VALUE => {
+                    let scale = layout::scale(s, at, index);
+                    let value = scale.get(part).ok_or(9u32)?.get(call.place as usize).ok_or(9u32)?;
+                    put(&mut lent.floats, &floats(&[value.first, value.second]));
+                }
                 ROTATION => put_curve(lent, &curves.rotation, lists[3], |m| floats(m.columns.iter().flatten())),
                 MATRIX if call.room < 128 => return Err(11),
                 MATRIX => {
@@ -313,6 +325,18 @@ pub fn stored(sections: usize) -> (Vec<u8>, String) {
     for s in sections::equally_named() {
         let names = [(4, 0xee), (4, 0), (4, 1), (5, 0xee), (3, 0xee)].map(|(letters, leftovers)| sections::ended(letters, leftovers));
         let calls = names.into_iter().map(|name| Call { name, ..call(&s, FIND, rng) }).collect();
+        kept.push((s, calls));
+    }
+    // one value of a scale in each, with numbers of their own, so that the calls above stay the same
+    let own = &mut Rng::new(6);
+    for (s, calls) in &mut kept {
+        calls.push(call(s, SCALE_VALUE, own));
+    }
+    // every axis and value of a scale, and past them
+    for s in sections::scaled() {
+        let at = |code, part, place| Call { code, part, place, ..Call::default() };
+        let values = (0..4).flat_map(|axis| (0..8).map(move |index| at(SCALE_VALUE, axis, index)));
+        let calls = (0..4).map(|axis| at(SCALE, axis, 0)).chain(values).collect();
         kept.push((s, calls));
     }
     let count: usize = kept.iter().map(|(_, calls)| calls.len()).sum();

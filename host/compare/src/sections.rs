@@ -203,6 +203,39 @@ pub fn hundred() -> Vec<u8> {
     section(b"JNT0", &[e], &mut Rng::new(1))
 }
 
+/// Sections whose object has a scale alone: one axis is constant, one a list of some width, one a list without values. The numbers are the
+/// extremes and those next to zero, and a pair's two are never equal.
+pub fn scaled() -> Vec<Vec<u8>> {
+    let numbers = [0, 1, 0xffff_ffff, 0x7fff_ffff, 0x8000_0000, 0x1000, 0xf000];
+    let mut found = Vec::new();
+    for width in 0..4 {
+        for turn in 0..3 {
+            // no translation and no rotation
+            let mut object = Vec::new();
+            put16(&mut object, 1 << 1 | 1 << 6 | 1 << (11 + turn));
+            put16(&mut object, 0);
+            for axis in 0..3 {
+                match (axis + 3 - turn) % 3 {
+                    0 => numbers[width..][..2].iter().for_each(|&x| put32(&mut object, x)),
+                    // six values, or one frame at half the rate
+                    role => {
+                        put32(&mut object, if role == 1 { 6 << 16 | width << 28 } else { 1 << 16 | width << 28 | 1 << 30 });
+                        put32(&mut object, 22 + 28);
+                    }
+                }
+            }
+            let mut e = b"J\0AC\x06\0\x01\0".to_vec();
+            e.resize(20, 0);
+            put16(&mut e, 22);
+            e.extend(object);
+            let put = if width == 0 { put32 } else { put16 };
+            numbers.windows(2).flatten().for_each(|&x| put(&mut e, x));
+            found.push(section(b"JNT0", &[e], &mut Rng::new(1)));
+        }
+    }
+    found
+}
+
 // ---- SRT0
 
 fn material(rng: &mut Rng) -> Vec<u8> {

@@ -31,7 +31,7 @@ returns-2 c =
     let a = k .before .before .before .args in
     let e = sym (c .before .if1 .left) ∙ (k .is-clear .ensures ∙ ap (λ (n : ℕ). eqb (bits (a .flags) n (n + 2)) 0) (k .before .left-out-bit .ensures .0)) in
     let f = ap (λ (b : Bool). run (cond b (axes (tripleMeans (a .which)) (a .flags) (a .at .pos)) (done (noAxes, a .at .pos))) (a .s .now) (a .at .reach)) (sym e) in
-    subst (λ (x : AxisCurves). AxesReads (animatedAxes (tripleMeans (a .which)) (a .flags) (a .at .pos)) (a .s .now) (a .at .reach) (a .at .pos + 24) (AxesRead.Whole x (a .at) 0)) (sym (c .no-axes .ensures)) (record { reads = f; holds = (record { x = tt; y = tt; z = tt }, omega arith, refl) })
+    subst (λ (x : AxisCurves). AxesReads (tripleMeans (a .which)) (animatedAxes (tripleMeans (a .which)) (a .flags) (a .at .pos)) (a .s .now) (a .at .reach) (a .at .pos + 24) (AxesRead.Whole x (a .at) 0)) (sym (c .no-axes .ensures)) (record { reads = f; holds = (record { x = tt; y = tt; z = tt }, omega arith, refl) })
 
 pub read-animated-axes-spec : {M : Type 1} → statement M
 read-animated-axes-spec =

@@ -4,6 +4,7 @@ use native.Mathlib.Omega.{arith}
 use Rattle.util.proofs.ReadsLaws.{known, goes-on, stops}
 use Rattle.util.specs.Reader.{run}
 use Rattle.animation.specs.Animation.{axes}
+use Rattle.animation.specs.AnimationCode.{tripleMeans}
 use borrow.Author.Needs.{needs}
 use Rattle.animation.proofs.read_axes.Statement.{statement}
 use Rattle.animation.proofs.read_axes.Tie as tie
@@ -44,7 +45,7 @@ returns-4 c =
     let z = known (i .z .given .1) (i .before .before .read-axis3 .ensures) in
     record {
       reads = goes-on _ _ _ _ _ _ (x .reads) ∙ (goes-on _ _ _ _ _ _ (y .reads) ∙ goes-on _ _ _ _ _ _ (z .reads));
-      holds = (record { x = x .holds .0; y = y .holds .0; z = z .holds .0 }, let p = x .holds .1 in let q = y .holds .1 in let r = z .holds .1 in omega arith, c .axes-samples .ensures _);
+      holds = (record { x = x .holds .0; y = y .holds .0; z = z .holds .0 }, let p = x .holds .1 in let q = y .holds .1 in let r = z .holds .1 in omega arith, c .axes-samples .ensures (tripleMeans (k .before .before .before .before .args .which)) _);
     }
 
 pub read-axes-spec : {M : Type 1} → statement M

@@ -19,8 +19,8 @@ returns-2 c =
     let n = c .before .before .before .numbers .ensures in
     let h = c .before .if1 .left in
     record {
-      reads = constant-whole (tripleMeans (a .which)) (a .at .pos) (a .at .reach) (a .s .now) _ (n .0) (n .1) h ∙ (cc);
-      holds = (omega arith, omega arith);
+      reads = constant-whole (tripleMeans (a .which)) (a .at .pos) (a .at .reach) (a .s .now) _ (n .0) h ∙ (cc);
+      holds = (omega (arith, n .0), omega arith);
     }
 
 pub read-constant-spec : {M : Type 1} → statement M

@@ -2,7 +2,7 @@
 use mathlib.Core.Path.{sym, ap, subst, _∙_}
 use native.Mathlib.Omega.{arith}
 use Rattle.curve.specs.declared.ScalarCurve.{ScalarCurve}
-use Rattle.curve.specs.Curve.{recorded, always}
+use Rattle.curve.specs.Curve.{recorded, always, numberOf}
 use Rattle.curve.specs.CurveCode.{scalarCurve, Inside}
 use Rattle.curve.proofs.SampleLaws.{value-count, list-recorded}
 use borrow.Author.Needs.{needs}
@@ -34,7 +34,7 @@ returns-3 : tie.Need-returns-3
 returns-3 c =
     let k = c .before .before in
     let a = k .before .before .before .args in
-    list-recorded _ _ (a .entry) _ (c .record-list .ensures .0) (c .record-list .ensures .1) (value-count (a .s .now) (k .c2 .given .0 .0) (k .c2 .given .0 .1 .0))
+    list-recorded _ _ (a .entry) _ (c .record-list .ensures .0) (c .record-list .ensures .1) (value-count numberOf (a .s .now) (k .c2 .given .0 .0) (k .c2 .given .0 .1 .0))
     ∙ sym (ap (λ (x : ScalarCurve). recorded (a .entry) (scalarCurve (a .s .now) x)) (k .c2 .given .1))
 
 pub record-scalar-spec : {M : Type 1} → statement M

@@ -1,6 +1,6 @@
 -- `curve::sample_list` meets its contract. Assumes nothing.
 use native.Mathlib.Omega.{arith}
-use Rattle.curve.specs.Curve.{mix}
+use Rattle.curve.specs.Curve.{mix, numberOf}
 use Rattle.curve.proofs.SampleLaws.{value-count, value-inside, value-there, sample-first, sample-last, sample-between}
 use borrow.Author.Needs.{needs}
 use Rattle.curve.proofs.sample_list.Statement.{statement}
@@ -19,7 +19,7 @@ returns c default =
     let z = t .before .before .before in
     let a = z .args in
     let there = value-there (a .s .now) (a .l) (a .number) (z .pre .0) default in
-    sample-first mix default (a .l) _ (value-count (a .s .now) (a .l) (a .number)) (a .frame) (z .pre .1) (t .if1 .taken) _ (there _ (z .pre .1) _ (c .value .ensures))
+    sample-first mix default (a .l) _ (value-count numberOf (a .s .now) (a .l) (a .number)) (a .frame) (z .pre .1) (t .if1 .taken) _ (there _ (z .pre .1) _ (c .value .ensures))
 
 value-requires-2 : tie.Need-value-requires-2
 value-requires-2 c κs =
@@ -34,7 +34,7 @@ returns-2 c default =
     let z = f .before .before .before in
     let a = z .args in
     let there = value-there (a .s .now) (a .l) (a .number) (z .pre .0) default in
-    sample-last mix default (a .l) _ (value-count (a .s .now) (a .l) (a .number)) (a .frame) (z .pre .1) (f .if1 .left) (t .if2 .taken) _ (there _ (omega arith) _ (c .value2 .ensures))
+    sample-last mix default (a .l) _ (value-count numberOf (a .s .now) (a .l) (a .number)) (a .frame) (z .pre .1) (f .if1 .left) (t .if2 .taken) _ (there _ (omega arith) _ (c .value2 .ensures))
 
 value-requires-3 : tie.Need-value-requires-3
 value-requires-3 c κs =
@@ -60,7 +60,7 @@ returns-3 c default =
     let a = z .args in
     let there = value-there (a .s .now) (a .l) (a .number) (z .pre .0) default in
     let q = p .locate .ensures in
-    sample-between mix default (a .l) _ (value-count (a .s .now) (a .l) (a .number)) (a .frame) (z .pre .1) (f .if1 .left) (t .if2 .left) _ (q .0) _ _ _ (there _ (omega arith) _ (lo .value3 .ensures)) (there _ (q .2) _ (hi .value4 .ensures)) (c .lerp .ensures)
+    sample-between mix default (a .l) _ (value-count numberOf (a .s .now) (a .l) (a .number)) (a .frame) (z .pre .1) (f .if1 .left) (t .if2 .left) _ (q .0) _ _ _ (there _ (omega arith) _ (lo .value3 .ensures)) (there _ (q .2) _ (hi .value4 .ensures)) (c .lerp .ensures)
 
 pub sample-list-spec : {M : Type 1} → statement M
 sample-list-spec =

@@ -1,6 +1,6 @@
 -- `curve::sample_scalar` meets its contract. Assumes nothing.
 use mathlib.Core.Path.{refl, subst}
-use Rattle.curve.specs.Curve.{mix, sampleAt}
+use Rattle.curve.specs.Curve.{mix, sampleAt, numberOf}
 use Rattle.curve.specs.CurveCode.{scalarCurve, Inside}
 use Rattle.curve.proofs.SampleLaws.{value-count, sample-as, sample-empty}
 use borrow.Author.Needs.{needs}
@@ -14,7 +14,7 @@ returns : tie.Need-returns
 returns c =
     let k = c .before .before .before in
     let a = k .before .before .before .args in
-    sample-as mix (a .default) (scalarCurve (a .s .now)) (a .curve) _ (k .curve2 .given .1) (a .frame) _ (sample-empty mix (a .default) _ _ (value-count (a .s .now) (k .curve2 .given .0 .0) (k .curve2 .given .0 .1 .0)) (a .frame) (c .if1 .taken))
+    sample-as mix (a .default) (scalarCurve (a .s .now)) (a .curve) _ (k .curve2 .given .1) (a .frame) _ (sample-empty mix (a .default) _ _ (value-count numberOf (a .s .now) (k .curve2 .given .0 .0) (k .curve2 .given .0 .1 .0)) (a .frame) (c .if1 .taken))
 
 sample-list-requires : tie.Need-sample-list-requires
 sample-list-requires c κs =

@@ -1,25 +1,29 @@
 -- `trs::sample_at` meets its contract. Assumes nothing.
 use mathlib.Core.Path.{refl}
 use lib.Ieee.{ofBits}
-use Rattle.animation.specs.Animation.{matrixAt}
+use lib.Dec.{lit≤}
+use Rattle.animation.specs.Animation.{translation, scale, matrixAt}
+use Rattle.animation.proofs.ObjectLaws.{first-axes, first-of-axes}
 use borrow.Author.Needs.{needs}
 use Rattle.trs.proofs.sample_at.Statement.{statement}
 use Rattle.trs.proofs.sample_at.Tie as tie
 
+-- the scale is sampled by its first numbers
 returns : tie.Need-returns
 unfolding matrixAt ofBits
 returns c =
     let s = c .before in
     let r = s .before in
     let t = r .before in
-    rw (c .trs .ensures, s .sample-axes2 .ensures, r .sample-rotation .ensures, t .sample-axes .ensures) refl
+    let a = t .before .before .before .before .args in
+    rw (c .trs .ensures, s .sample-axes2 .ensures, r .sample-rotation .ensures, t .sample-axes .ensures, first-of-axes (a .s .now) (a .c .scale)) refl
 
 pub sample-at-spec : {M : Type 1} → statement M
 sample-at-spec =
     tie.close
     (tie.spec
+    (λ c κs. let z = c .before .before .before in first-axes translation (lit≤ tt) _ _ (z .pre .trans))
     (λ c κs. search needs)
-    (λ c κs. search needs)
-    (λ c κs. search needs)
+    (λ c κs. let z = c .before .before .before .before .before in first-axes scale (lit≤ tt) _ _ (z .pre .scale))
     (λ c κs. search needs)
     returns)
