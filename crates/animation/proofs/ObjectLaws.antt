@@ -139,7 +139,7 @@ module _ (s : List ℕ) where
 -- ---- an object's triples
 
 -- sampling sees the first numbers: they stand inside ..
-pub first-axes : (t : Triple) → 1 ≤ numbersOf t → (s : List ℕ) (a : AxisCurves) → InsideTriple t s a → InsideAxes s a
+first-axes : (t : Triple) → 1 ≤ numbersOf t → (s : List ℕ) (a : AxisCurves) → InsideTriple t s a → InsideAxes s a
 first-axes t h s a i = record { x = first-inside (numbersOf t) h s (a .x) (i .x); y = first-inside (numbersOf t) h s (a .y) (i .y); z = first-inside (numbersOf t) h s (a .z) (i .z) }
 
 -- .. and are the same numbers, whether read by themselves or taken of the pairs

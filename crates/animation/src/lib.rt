@@ -108,7 +108,7 @@ pub enum AnimationRead {
 
 // How many numbers a value of the triple has.
 fn numbers(which: Triple) -> u16
-    ensures { λ r. ⌜ (r ≡ numbersOf (tripleMeans which)) × (1 ≤ r) × (r ≤ 2) ⌝ }
+    ensures { λ r. ⌜ (r ≡ numbersOf (tripleMeans which)) × (r ≤ 2) ⌝ }
 {
     match which {
         Triple::Translation => 1,

@@ -2,9 +2,9 @@
 use mathlib.Core.Path.{sym, ap, subst, _∙_}
 use native.Mathlib.Omega.{arith}
 use lib.ListN.{length}
-use lib.Dec.{lit≤}
+use Rattle.animation.specs.declared.Triple.{Triple}
 use Rattle.animation.specs.Animation.{translation}
-use Rattle.animation.proofs.ObjectLaws.{first-axes}
+use Rattle.animation.proofs.ObjectLaws.{triple-inside}
 use Rattle.calls.specs.Calls.{curve, askObject}
 use Rattle.nitro.proofs.EntryLaws.{onward, onward-end}
 use Rattle.jnt.specs.OpenedCode.{ObjectOpens}
@@ -44,7 +44,7 @@ record-axis-requires c κs =
     let i = inside-here (a .s .now) (a .entry) (a .object) _ _ w _ e _ (c .before .object-at .ensures) in
     let l = onward-end (a .s .now) (b .off .given .0 .0) (w .start) in
     let n = ap length e in
-    (first-axes translation (lit≤ tt) _ _ (i .trans), omega (arith, b .before .before .before .before .good .0))
+    (triple-inside _ _ _ i Triple.Translation, omega (arith, b .before .before .before .before .good .0))
 
 returns : tie.Need-returns
 returns c =

@@ -1,9 +1,9 @@
 -- `trs::sample_at` meets its contract. Assumes nothing.
 use mathlib.Core.Path.{refl}
 use lib.Ieee.{ofBits}
-use lib.Dec.{lit≤}
-use Rattle.animation.specs.Animation.{translation, scale, matrixAt}
-use Rattle.animation.proofs.ObjectLaws.{first-axes, first-of-axes}
+use Rattle.animation.specs.declared.Triple.{Triple}
+use Rattle.animation.specs.Animation.{matrixAt}
+use Rattle.animation.proofs.ObjectLaws.{first-of-axes, triple-inside}
 use borrow.Author.Needs.{needs}
 use Rattle.trs.proofs.sample_at.Statement.{statement}
 use Rattle.trs.proofs.sample_at.Tie as tie
@@ -22,8 +22,8 @@ pub sample-at-spec : {M : Type 1} → statement M
 sample-at-spec =
     tie.close
     (tie.spec
-    (λ c κs. let z = c .before .before .before in first-axes translation (lit≤ tt) _ _ (z .pre .trans))
+    (λ c κs. let z = c .before .before .before in triple-inside _ _ _ (z .pre) Triple.Translation)
     (λ c κs. search needs)
-    (λ c κs. let z = c .before .before .before .before .before in first-axes scale (lit≤ tt) _ _ (z .pre .scale))
+    (λ c κs. let z = c .before .before .before .before .before in triple-inside _ _ _ (z .pre) Triple.Scale)
     (λ c κs. search needs)
     returns)
