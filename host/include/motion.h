@@ -16,7 +16,7 @@
  *    9  an index past its list
  *   10  nothing to sample: an empty list, or a track without keys
  *   11  the lent slice is too small
- *   12  more than 99 objects
+ *   12  more than 999 objects
  *
  * What is lent keeps its contents where the call refuses. No pointer may be null, not even for 0 bytes, and what a call writes into may
  * not overlap the section. Indexes count from 0.
@@ -83,8 +83,8 @@ uint32_t motion_resample_scale(const uint8_t *section, size_t length, size_t ent
 /* Bytes that hold every listing. */
 #define MOTION_LIST_ROOM 65536
 
-/* The listing of a section, as the program motion-list prints it, with the totals after the last entry: answers how many bytes of `out` it
- * has. */
+/* The listing of a section, as the program motion-list prints it: the line listing=2 first, in a refused section too, and the totals after the
+ * last entry. Answers how many bytes of `out` it has. */
 size_t motion_list(const uint8_t *section, size_t length, uint8_t out[MOTION_LIST_ROOM]);
 
 #ifdef __cplusplus

@@ -39,7 +39,7 @@ impl Refusal {
             9 => "the index is past its list",
             10 => "there is nothing to sample: an empty list, or a track without keys",
             11 => "the slice is too small",
-            12 => "the animation has more than 99 objects",
+            12 => "the animation has more than 999 objects",
             13 => "the input has more than 65,536 bytes",
             _ => "no refusal has this number",
         }
@@ -269,14 +269,14 @@ pub fn find(section: &[u8], name: &[u8; 16]) -> Result<Option<usize>> {
     answer(n, (out[0] == 1).then_some(out[1] as usize))
 }
 
-/// The listing of a section, as the program motion-list prints it: each entry, then how many were accepted and refused, and how many values the
-/// lists of the accepted ones have.
+/// The listing of a section, as the program motion-list prints it: the form of the listing, each entry, then how many were accepted and refused,
+/// and how many values the lists of the accepted ones have.
 ///
 /// ```
 /// let listing = motion::list(motion::example::WALK);
-/// assert!(listing.starts_with("section=JNT0\nentries=1\nentry=0\n"));
+/// assert!(listing.starts_with("listing=2\nsection=JNT0\nentries=1\nentry=0\n"));
 /// assert!(listing.ends_with("accepted=1\nrefused=0\nsamples=0\n"));
-/// assert_eq!(motion::list(b"TEX0"), "answer=1\n");
+/// assert_eq!(motion::list(b"TEX0"), "listing=2\nanswer=1\n");
 /// ```
 pub fn list(section: &[u8]) -> String {
     let mut out = [0; LISTING];

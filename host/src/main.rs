@@ -146,7 +146,7 @@ fn name_of(word: &str) -> Result<[u8; 16], Stop> {
 fn list(args: &Args) -> Outcome {
     args.no_more(2)?;
     let text = motion::list(&args.section()?);
-    match text.strip_prefix("answer=") {
+    match text.strip_prefix("listing=2\nanswer=") {
         Some(number) => Err(Stop::Refused(Refusal(number.trim_end().parse().unwrap_or(0)), text)),
         None => Ok(text),
     }

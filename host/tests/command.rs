@@ -37,7 +37,33 @@ fn accepted() {
     assert_eq!(matrix.lines().last(), Some("column 3: 3ff0000000000000 bff0000000000000 3fe0000000000000 3ff0000000000000"));
     assert_eq!(status, 0);
     let (listing, status) = motion("list -", WALK);
-    assert!(listing.ends_with("objects=01\naccepted=1\nrefused=0\nsamples=0\n"), "{listing}");
+    assert!(listing.starts_with("listing=2\nsection=JNT0\n"), "{listing}");
+    assert!(listing.ends_with("objects=001\naccepted=1\nrefused=0\nsamples=0\n"), "{listing}");
+    assert_eq!(status, 0);
+}
+
+#[test]
+fn crowds() {
+    // so many objects, all at the place of the walk's one
+    let crowd = |objects: u16| {
+        let offset = (20 + 2 * objects).to_le_bytes();
+        [&WALK[..54], &objects.to_le_bytes(), &[0; 12], &offset.repeat(objects as usize), &WALK[70..]].concat()
+    };
+    for objects in [99, 100, 240, 999] {
+        let (section, last) = (crowd(objects), objects - 1);
+        let (record, status) = motion("check - 0", &section);
+        assert_eq!((record.lines().last(), status), (Some(format!("count={objects}").as_str()), 0));
+        assert_eq!(motion(&format!("matrix - 0 {last} 5"), &section), motion("matrix - 0 0 5", WALK));
+        assert_eq!(motion(&format!("matrix - 0 {objects} 5"), &section), ("".into(), 1));
+        let (listing, _) = motion("list -", &section);
+        assert!(listing.contains(&format!("\nreach={}\nframes=12\nobjects={objects:03}\n", section.len())), "{listing}");
+        assert_eq!(motion("check - 0", &section[..section.len() - 1]), ("".into(), 1));
+    }
+    for words in ["check - 0", "matrix - 0 0 5", "curve - 0 0 translation 0", "scale - 0 0 0 0", "resample - 0 0 scale"] {
+        assert_eq!(motion(words, &crowd(1000)), ("".into(), 1), "{words}");
+    }
+    let (listing, status) = motion("list -", &crowd(1000));
+    assert!(listing.ends_with("\nanswer=12\naccepted=0\nrefused=1\nsamples=0\n"), "{listing}");
     assert_eq!(status, 0);
 }
 
@@ -103,7 +129,7 @@ fn refused() {
     assert_eq!(motion("check - 1", WALK), ("".into(), 1));
     assert_eq!(motion("uv - 0 0 5", WALK), ("".into(), 1));
     assert_eq!(motion("choice - 0 0 5", WALK), ("".into(), 1));
-    assert_eq!(motion("list -", b"TEX0"), ("answer=1\n".into(), 1));
+    assert_eq!(motion("list -", b"TEX0"), ("listing=2\nanswer=1\n".into(), 1));
 }
 
 #[test]

@@ -68,16 +68,17 @@ impl Mixed {
     }
 }
 
-/// The call that 32 bytes stand for, as crates/replay makes it. Floats are lent as their bits, so that none is moved as a float here.
+/// The call that 33 bytes stand for, as crates/replay makes it. Floats are lent as their bits, so that none is moved as a float here.
 fn call(c: &[u8], s: &[u8], words: &mut [u64], floats: &mut [u64], bytes: &mut [u8]) -> u32 {
     let (p, len) = (s.as_ptr(), s.len());
-    let [entry, index, part, place, room] = [1, 2, 3, 6, 7].map(|k| c[k] as usize);
-    let frame = u16::from_le_bytes([c[4], c[5]]);
+    let [entry, part, place, room] = [1, 4, 7, 8].map(|k| c[k] as usize);
+    let [index, frame] = [2, 5].map(|k| u16::from_le_bytes([c[k], c[k + 1]]));
+    let index = index as usize;
     let (w, f) = (words.as_mut_ptr(), floats.as_mut_ptr());
     unsafe {
         match c[0] {
             0 => motion_record(p, len, entry, w),
-            1 => motion_find(p, len, c[8..24].as_ptr(), w),
+            1 => motion_find(p, len, c[9..25].as_ptr(), w),
             2 => motion_translation_curve(p, len, entry, index, part, w, f),
             3 => motion_rotation_curve(p, len, entry, index, w, f),
             4 => motion_scale_curve(p, len, entry, index, part, w, f),
@@ -127,9 +128,9 @@ fn stored_calls_keep_every_bit() {
     let mut nans = [0; 2];
     for round in 0..4 {
         for (k, line) in answers.lines().enumerate() {
-            let at = 2 + 32 * k;
-            let c = &list[at..at + 32];
-            let s = &list[word32(at + 24)..][..word32(at + 28)];
+            let at = 2 + 33 * k;
+            let c = &list[at..at + 33];
+            let s = &list[word32(at + 25)..][..word32(at + 29)];
             let (w, f, b) = lent(c[0]);
             let said: Vec<u64> = line.split(' ').map(|x| u64::from_str_radix(x, 16).unwrap()).collect();
             assert_eq!(said.len(), 1 + w + f + b, "call {k}: {line}");

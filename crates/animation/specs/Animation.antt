@@ -52,7 +52,7 @@ objectSamples o = axesSamples (o .translation) + sampleCount (o .rotation) + axe
 
 -- more than this many objects are refused
 abbrev pub mostObjects : ℕ
-mostObjects = 99
+mostObjects = 999
 
 -- f of the curve of axis 0, 1 or 2; 9 past them
 abbrev pub onAxis : {A B : Type 0} → PerAxis A → ℕ → (Curve A → Verdict B) → Verdict B

@@ -30,6 +30,9 @@ ghost use Rattle.animation.specs.Animation.{numbersOf, leftOutBit, const
 ghost use Rattle.animation.specs.AnimationCode.{tripleMeans, fieldsMeans, Forward, codeList, ScalarReads, AxesReads, noCurves, referredMeans, referenceEnd, tripleCurves, rotationCurve, RotationReads, ObjectReads, stillCurves, refusedObject, tablesAt, AnimationIs};
 ghost use Rattle.animation.specs.Animation as spec;
 
+// More objects in an animation are refused.
+const MOST_OBJECTS: usize = 999;
+
 // One of an object's two triples of curves.
 pub enum Triple {
     Translation,
@@ -596,7 +599,7 @@ pub fn read_animation(s: &[u8]) -> AnimationRead
     if frames == 0 {
         return AnimationRead::Refused(6);
     }
-    if objects > 99 {
+    if objects > MOST_OBJECTS {
         return AnimationRead::Refused(12);
     }
     let tables = read_tables(s);

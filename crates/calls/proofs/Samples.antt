@@ -1,5 +1,5 @@
--- The samples of an entry's record are what the record calls hand out, added up; and they are few. Assumes nothing.
-use Prim.Native.Nat.{ℕ, _<_}
+-- The samples of an entry's record are what the record calls hand out, added up; they are few, and so are its objects or tracks. Assumes nothing.
+use Prim.Native.Nat.{ℕ, _<_, _≤_}
 use mathlib.Core.Bool.{Bool}
 use mathlib.Core.List.{List, []}
 use mathlib.Core.Path.{_≡_, refl, sym, ap, subst, _∙_}
@@ -16,14 +16,14 @@ use Rattle.util.proofs.ReadsLaws.{done-is}
 use Rattle.util.proofs.NumberLaws.{run-number, numbered-bind}
 use Rattle.util.proofs.SumsLaws.{entryBound, total-sum}
 use Rattle.curve.specs.Curve.{Curve, none, constant, samples, sampleCount, recorded}
-use Rattle.animation.specs.Animation.{Object, stillObject, axesOf, axesSamples, objectSamples, Triple, translation, scale}
+use Rattle.animation.specs.Animation.{Object, stillObject, axesOf, axesSamples, objectSamples, mostObjects, Triple, translation, scale}
 use Rattle.material_animation.specs.MaterialAnimation.{trackSamples}
 use Rattle.material_animation.proofs.MaterialLaws.{five-channels}
 use Rattle.pattern.specs.Pattern.{keyCount}
 use Rattle.nitro.specs.Container.{Kind, jnt, srt, pat, allKinds, stamped, Entry, entry, EntryRecord, countOf, recordOf, samplesOf}
 use Rattle.nitro.proofs.ContainerLaws.{held-read}
 use Rattle.nitro.proofs.EntryLaws.{open-run}
-use Rattle.nitro.proofs.FiniteLaws.{SizedValue, entry-all, samples-few}
+use Rattle.nitro.proofs.FiniteLaws.{SizedValue, entry-all, count-few, samples-few}
 use Rattle.nitro.proofs.NumberLaws.{stamped-numbered, entry-numbered}
 use Rattle.calls.specs.Calls.{ObjectQuery, ObjectReply, Query, Reply, ofObject, curve, rotationCurve, ofMaterial, channelCurve, ofPattern, keys, noTrack, askObject, askMaterial, askPattern, ask, check, on, reader, answer}
 use Rattle.calls.specs.Samples.{adds, lengthOf, axesLengths, objectLengths, trackLengths, keyLengths, handedOut}
@@ -124,8 +124,15 @@ samples-handed k s i stamp m r h =
 
 -- ---- how many there can be
 
-pub check-few : (s : List ℕ) → Bytes s → (i m : ℕ) (r : EntryRecord) → answer (check i) s ≡ accepted m r → r .samples < entryBound
+-- what holds of the record of every entry that is as small as readers can give holds of every record that the check answers
+check-all : (P : EntryRecord → Type 0) → ((k : Kind) (e : Entry k) → SizedValue k (e .held) → P (recordOf k e)) → (s : List ℕ) → Bytes s
+    → (i m : ℕ) (r : EntryRecord) → answer (check i) s ≡ accepted m r → P r
 unfolding answer reader
-check-few s b i m r =
-    all-run (λ r. r .samples < entryBound) (reader (check i))
-    (all-after _ (stamped allKinds) _ λ k. all-bind (λ e. SizedValue k (e .held)) _ (entry k i) _ (entry-all k i) λ e h. samples-few k (e .held) h) s b 0 m r
+check-all P f s b i m r =
+    all-run P (reader (check i)) (all-after _ (stamped allKinds) _ λ k. all-bind (λ e. SizedValue k (e .held)) _ (entry k i) _ (entry-all k i) (f k)) s b 0 m r
+
+pub check-count : (s : List ℕ) → Bytes s → (i m : ℕ) (r : EntryRecord) → answer (check i) s ≡ accepted m r → r .count ≤ mostObjects
+check-count = check-all (λ r. r .count ≤ mostObjects) (λ k e. count-few k (e .held))
+
+pub check-few : (s : List ℕ) → Bytes s → (i m : ℕ) (r : EntryRecord) → answer (check i) s ≡ accepted m r → r .samples < entryBound
+check-few = check-all (λ r. r .samples < entryBound) (λ k e. samples-few k (e .held))

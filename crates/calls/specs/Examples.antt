@@ -1,5 +1,5 @@
 -- Small sections, and what the calls answer on them. Assumes nothing.
-use Prim.Native.Nat.{ℕ, _+_, _*_}
+use Prim.Native.Nat.{ℕ, zero, suc, _+_, _*_}
 use mathlib.Core.Bool.{true, false}
 use mathlib.Core.List.{List, [], _∷_, _++_}
 use mathlib.Core.Option.{none, some}
@@ -248,3 +248,40 @@ pub first-sampled :
     ≡ accepted 114 (record { c0 = col4 (fin false 3 (negsuc 0)) f0 f0 f0; c1 = col4 f0 (fin false 1 (pos 1)) f0 f0; c2 = col4 f0 f0 (fin false 25 (pos 2)) f0; c3 = col4 f0 f0 f0 f1 }))
 unfolding evaluate
 first-sampled = (refl, refl)
+
+-- ---- 12. A crowd: at most 999 objects
+
+abbrev repeated : ℕ → List ℕ → List ℕ
+repeated zero bs = []
+repeated (suc n) bs = bs ++ repeated n bs
+
+-- n objects, all at 8 of the entry, where a word of no use makes one that nothing animates
+abbrev pub crowd : ℕ → List ℕ
+crowd n =
+    stampOf jnt ++ u32 0 ++ block 1 4 (u32 48) (zeros 16)
+    ++ (0x4A ∷ 0x00 ∷ 0x41 ∷ 0x43 ∷ []) ++ u16 1 ++ u16 n ++ u32 1 ++ zeros 8 ++ repeated n (u16 8)
+
+abbrev crowdRecord : ℕ → EntryRecord
+crowdRecord n = record { name = zeros 16; frames = 1; count = n; samples = 0 }
+
+pub its-objects :
+    (answer (check 0) (crowd 99) ≡ accepted 266 (crowdRecord 99))
+    × (answer (check 0) (crowd 100) ≡ accepted 268 (crowdRecord 100))
+    × (answer (check 0) (crowd 240) ≡ accepted 548 (crowdRecord 240))
+    × (answer (check 0) (crowd 999) ≡ accepted 2066 (crowdRecord 999))
+    × (answer (check 0) (crowd 1000) ≡ refused 12)
+unfolding evaluate
+its-objects = (refl, refl, refl, refl, refl)
+
+-- the last object's matrix, the identity; none after it; 12 for this call too
+pub last-of-a-crowd :
+    (answer (on jnt 0 (ofObject 239 (matrix 5))) (crowd 240) ≡ accepted 548 (record { c0 = col4 f1 f0 f0 f0; c1 = col4 f0 f1 f0 f0; c2 = col4 f0 f0 f1 f0; c3 = col4 f0 f0 f0 f1 }))
+    × (answer (on jnt 0 (ofObject 240 (matrix 5))) (crowd 240) ≡ refused 9)
+    × (answer (on jnt 0 (ofObject 0 (matrix 5))) (crowd 1000) ≡ refused 12)
+unfolding evaluate
+last-of-a-crowd = (refl, refl, refl)
+
+-- 12 comes after the offsets: with a byte of them missing the front is too short
+pub offsets-first : answer (check 0) (take 2067 (crowd 1000)) ≡ refused 2
+unfolding evaluate
+offsets-first = refl

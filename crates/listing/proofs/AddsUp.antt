@@ -16,7 +16,7 @@ use Rattle.nitro.proofs.ContainerLaws.{stamp-of}
 use Rattle.calls.specs.Calls.{check, answer}
 use Rattle.calls.specs.Samples.{adds, handedOut}
 use Rattle.calls.proofs.Samples.{samples-handed, check-number}
-use Rattle.listing.specs.Listing.{acceptedIn, refusedIn, samplesIn, Header, header, sectionLines, listing}
+use Rattle.listing.specs.Listing.{acceptedIn, refusedIn, samplesIn, Header, header, sectionLines, body, listing}
 use Rattle.listing.specs.SectionCode.{headerFrom}
 use Rattle.listing.specs.AddsUp.{AddsUp}
 use Rattle.listing.proofs.TotalsLaws.{all-counted}
@@ -50,7 +50,7 @@ adds-up s l m h e =
       whole = acceptedIn s n;
       damaged = refusedIn s n;
       samples = samplesIn s n;
-      printed = unfold listing sectionLines in rw (le-ltb 65536 (length s) l, e) refl;
+      printed = unfold listing body sectionLines in rw (le-ltb 65536 (length s) l, e) refl;
       answers-0 = sum-alike n _ _ (λ i _. zero-accepts s i (answer (check i) s) refl);
       all = all-counted s n;
       added = sum-alike n _ _ (λ i _. sample-sums s (h .kind) (header-stamp s m h e) i (answer (check i) s) refl);

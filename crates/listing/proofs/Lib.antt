@@ -1,3 +1,4 @@
 pub mod SectionLaws
 pub mod TotalsLaws
 pub mod AddsUp
+pub mod ObjectsTold

@@ -20,7 +20,7 @@ use Rattle.nitro.specs.Container.{Kind, allKinds, stamped, section, EntryRecord
 use Rattle.nitro.specs.ContainerCode.{HeaderReads}
 use Rattle.calls.specs.Calls.{check, answer}
 use Rattle.text.specs.Text.{ascii, decimal, hex, line}
-use Rattle.listing.specs.Listing.{stampText, outcomeLines, entryLines, entriesFrom, totalLines, acceptedIn, refusedIn, samplesIn, header, entryListing, sectionLines, listing}
+use Rattle.listing.specs.Listing.{stampText, outcomeLines, entryLines, entriesFrom, totalLines, acceptedIn, refusedIn, samplesIn, header, entryListing, sectionLines, body}
 use Rattle.text.specs.Writes.{Wrote}
 use Rattle.listing.specs.SectionCode.{blockOutcome, headerFrom, entryRoom}
 use Rattle.text.proofs.WritesLaws.{both, same}
@@ -85,21 +85,21 @@ module _ (s : List ℕ) (k : Kind) where
   unfolding run sectionLines
   block-whole b w = sym (ap (sectionLines s) (goes-on section (λ b. done (record { kind = k; block = b })) s 4 _ _ (w .reads)))
 
--- ---- the listing
+-- ---- all that stands below the first line
 
-pub too-long : (s : List ℕ) → 65536 < length s → line "answer" (decimal 13) ≡ listing s
-unfolding listing
+pub too-long : (s : List ℕ) → 65536 < length s → line "answer" (decimal 13) ≡ body s
+unfolding body
 too-long s h = sym (rw (lt-ltb 65536 (length s) h) refl)
 
 module _ (s : List ℕ) (h : length s ≤ 65536) where
-  by-stamp : (o : Outcome Kind) → run (stamped allKinds) s 0 ≡ o → listing s ≡ sectionLines s (after o (λ j k. run (headerFrom k) s j))
-  unfolding listing header
+  by-stamp : (o : Outcome Kind) → run (stamped allKinds) s 0 ≡ o → body s ≡ sectionLines s (after o (λ j k. run (headerFrom k) s j))
+  unfolding body header
   by-stamp o e = rw (le-ltb 65536 (length s) h) (ap (sectionLines s) (run-bind-as (stamped allKinds) headerFrom s 0 o e))
 
-  pub no-stamp : (n : ℕ) → run (stamped allKinds) s 0 ≡ refused n → line "answer" (decimal n) ≡ listing s
+  pub no-stamp : (n : ℕ) → run (stamped allKinds) s 0 ≡ refused n → line "answer" (decimal n) ≡ body s
   unfolding sectionLines after
   no-stamp n e = sym (by-stamp (refused n) e)
 
-  pub with-stamp : (k : Kind) → run (stamped allKinds) s 0 ≡ accepted 4 k → sectionLines s (run (headerFrom k) s 4) ≡ listing s
+  pub with-stamp : (k : Kind) → run (stamped allKinds) s 0 ≡ accepted 4 k → sectionLines s (run (headerFrom k) s 4) ≡ body s
   unfolding after
   with-stamp k e = sym (by-stamp (accepted 4 k) e)

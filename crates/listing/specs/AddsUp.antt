@@ -9,7 +9,7 @@ use Rattle.util.specs.Reader.{number, told}
 use Rattle.util.specs.Sums.{sumTo}
 use Rattle.calls.specs.Calls.{check, answer}
 use Rattle.calls.specs.Samples.{adds, handedOut}
-use Rattle.listing.specs.Listing.{totalLines, Header, entryListing, listing}
+use Rattle.listing.specs.Listing.{totalLines, Header, entryListing, formLine, listing}
 
 -- of a section whose header is h
 pub record AddsUp (s : List ℕ) (h : Header) : Type 0 where
@@ -17,7 +17,7 @@ pub record AddsUp (s : List ℕ) (h : Header) : Type 0 where
   pub whole : ℕ
   pub damaged : ℕ
   pub samples : ℕ
-  pub printed : listing s ≡ entryListing s h ++ totalLines whole damaged samples
+  pub printed : listing s ≡ formLine ++ (entryListing s h ++ totalLines whole damaged samples)
   -- the entries whose check answers 0, and all others
   pub answers-0 : whole ≡ sumTo (h .block .count) (λ i. cond (eqb (number (told (answer (check i) s))) 0) 1 0)
   pub all : whole + damaged ≡ h .block .count

@@ -15,16 +15,21 @@ use Rattle.calls.specs.Calls.{check, answer}
 use Rattle.calls.specs.Samples.{adds}
 use Rattle.calls.specs.Evaluate.{evaluate}
 use Rattle.calls.specs.Pinned.{walk}
-use Rattle.text.specs.Text.{ascii, digits, places, decimal, hex, line}
+use Rattle.calls.specs.Examples.{crowd}
+use Rattle.text.specs.Text.{ascii, digits, places, decimal, numeral, hex, line}
 
 abbrev pub stampText : Kind → String
 stampText jnt = "JNT0"
 stampText srt = "SRT0"
 stampText pat = "PAT0"
 
--- objects in two digits, tracks unpadded
+-- the digits that objects are told in: they hold the greatest count that is accepted
+abbrev pub objectDigits : ℕ
+objectDigits = 3
+
+-- objects with leading zeros, tracks unpadded
 abbrev pub countLine : Kind → ℕ → List ℕ
-countLine jnt n = line "objects" (digits 2 n)
+countLine jnt n = line "objects" (digits objectDigits n)
 countLine srt n = line "tracks" (decimal n)
 countLine pat n = line "tracks" (decimal n)
 
@@ -86,20 +91,40 @@ sectionLines s (accepted m h) = let n = h .block .count in entryListing s h ++ t
 sectionLines s (refused n) = line "answer" (decimal n)
 
 -- over 65,536 bytes are refused first of all, 13
+unfoldable pub body : List ℕ → List ℕ
+body s = cond (ltb 65536 (length s)) (line "answer" (decimal 13)) (sectionLines s (run header s 0))
+
+-- the first line of every listing, whatever stands below it. Listings of an earlier form have no such line, and two digits for the objects.
+abbrev pub formLine : List ℕ
+formLine = line "listing" (decimal 2)
+
 unfoldable pub listing : List ℕ → List ℕ
-listing s = cond (ltb 65536 (length s)) (line "answer" (decimal 13)) (sectionLines s (run header s 0))
+listing s = formLine ++ body s
+
+-- no digit of a count is lost: what stands after objects= tells the objects of every accepted entry. Proved in proofs/ObjectsTold.antt.
+abbrev pub ObjectsTold : List ℕ → Type 0
+ObjectsTold s = (i m : ℕ) (e : EntryRecord) → answer (check i) s ≡ accepted m e → numeral (digits objectDigits (e .count)) ≡ e .count
 
 -- ---- the printed example, and others
 
 pub printed :
     listing walk
-    ≡ ascii "section=JNT0\nentries=1\nentry=0\nname=77616c6b000000000000000000000000\nanswer=0\nreach=86\nframes=12\nobjects=01\naccepted=1\nrefused=0\nsamples=0\n"
-unfolding evaluate digits places hex outcomeLines entryLines entriesFrom sumTo header entryListing sectionLines listing
+    ≡ ascii "listing=2\nsection=JNT0\nentries=1\nentry=0\nname=77616c6b000000000000000000000000\nanswer=0\nreach=86\nframes=12\nobjects=001\naccepted=1\nrefused=0\nsamples=0\n"
+unfolding evaluate digits places hex outcomeLines entryLines entriesFrom sumTo header entryListing sectionLines body listing
 printed = refl
 
--- a section of no entries; one that is refused
+-- the same without its last byte; a section of no entries; one that is refused
 pub few-lines :
-    (listing (stampOf jnt ++ replicate 16 0 ++ (4 ∷ 0 ∷ 0 ∷ 0 ∷ [])) ≡ ascii "section=JNT0\nentries=0\naccepted=0\nrefused=0\nsamples=0\n")
-    × (listing (take 47 walk) ≡ ascii "answer=2\n")
-unfolding evaluate digits places sumTo entriesFrom header entryListing sectionLines listing
-few-lines = (refl, refl)
+    (listing (take 85 walk) ≡ ascii "listing=2\nsection=JNT0\nentries=1\nentry=0\nname=77616c6b000000000000000000000000\nanswer=2\naccepted=0\nrefused=1\nsamples=0\n")
+    × (listing (stampOf jnt ++ replicate 16 0 ++ (4 ∷ 0 ∷ 0 ∷ 0 ∷ [])) ≡ ascii "listing=2\nsection=JNT0\nentries=0\naccepted=0\nrefused=0\nsamples=0\n")
+    × (listing (take 47 walk) ≡ ascii "listing=2\nanswer=2\n")
+unfolding evaluate digits places hex outcomeLines entryLines entriesFrom sumTo header entryListing sectionLines body listing
+few-lines = (refl, refl, refl)
+
+-- of 99 objects, of 240, of 1,000
+pub crowd-lines :
+    (outcomeLines jnt (answer (check 0) (crowd 99)) ≡ ascii "answer=0\nreach=266\nframes=1\nobjects=099\n")
+    × (outcomeLines jnt (answer (check 0) (crowd 240)) ≡ ascii "answer=0\nreach=548\nframes=1\nobjects=240\n")
+    × (outcomeLines jnt (answer (check 0) (crowd 1000)) ≡ ascii "answer=12\n")
+unfolding evaluate digits places outcomeLines
+crowd-lines = (refl, refl, refl)

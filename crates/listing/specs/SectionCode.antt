@@ -34,6 +34,10 @@ entryRoom = 2 * lineRoom + recordRoom
 abbrev pub totalRoom : ℕ
 totalRoom = 3 * lineRoom
 
+-- the kind, the number of entries, at most 255 of them, and the totals
+abbrev pub sectionRoom : ℕ
+sectionRoom = 2 * lineRoom + (255 * entryRoom + totalRoom)
+
 -- ---- the totals
 
 -- with what one more check adds to each

@@ -24,9 +24,12 @@ ghost use Rattle.nitro.specs.EntryCode.{checkMeans};
 ghost use Rattle.calls.specs.Calls.{answer};
 ghost use Rattle.calls.specs.Calls as calls;
 ghost use Rattle.text.specs.Text.{ascii, line};
-ghost use Rattle.listing.specs.Listing.{stampText, countLine, entryLines, entriesFrom, totalLines, acceptedIn, refusedIn, samplesIn, sectionLines, listing, outcomeLines};
+ghost use Rattle.listing.specs.Listing.{stampText, countLine, entryLines, entriesFrom, totalLines, acceptedIn, refusedIn, samplesIn, sectionLines, body, listing, outcomeLines};
 ghost use Rattle.text.specs.Writes.{Wrote, lineRoom, room};
-ghost use Rattle.listing.specs.SectionCode.{blockOutcome, headerFrom, recordRoom, entryRoom, totalRoom, totalsWith, FewTotals};
+ghost use Rattle.listing.specs.SectionCode.{blockOutcome, headerFrom, recordRoom, entryRoom, totalRoom, sectionRoom, totalsWith, FewTotals};
+
+// The digits that objects are told in.
+const OBJECT_DIGITS: usize = 3;
 
 // How many objects or tracks an entry has.
 fn put_count(out: &mut [u8; ROOM], at: usize, kind: Kind, n: usize) -> usize
@@ -34,7 +37,7 @@ fn put_count(out: &mut [u8; ROOM], at: usize, kind: Kind, n: usize) -> usize
     ensures { λ r. ⌜ Wrote (now (out .entry)) (now (out .exit)) at r lineRoom (countLine (kindMeans kind) n) ⌝ }
 {
     match kind {
-        Kind::Jnt => put_digits_line(out, at, b"objects=", n, 2),
+        Kind::Jnt => put_digits_line(out, at, b"objects=", n, OBJECT_DIGITS),
         Kind::Srt => put_decimal_line(out, at, b"tracks=", n),
         Kind::Pat => put_decimal_line(out, at, b"tracks=", n),
     }
@@ -147,23 +150,37 @@ fn put_stamp(out: &mut [u8; ROOM], at: usize, kind: Kind) -> usize
 }
 
 // A section with this info block: its kind, the count, at most 255 entries, and the totals.
-fn list_block(s: &[u8], out: &mut [u8; ROOM], kind: Kind, b: InfoBlock) -> usize
-    requires { ⌜ (b .count < 256) × (b .names + 16 * b .count ≤ length (now s)) ⌝ }
-    ensures { λ r. ⌜ Wrote (now (out .entry)) (now (out .exit)) 0 r room (sectionLines (now (s .entry)) (blockOutcome (now (s .entry)) (kindMeans kind) b)) ⌝ }
+fn list_block(s: &[u8], out: &mut [u8; ROOM], at: usize, kind: Kind, b: InfoBlock) -> usize
+    requires { ⌜ (at + sectionRoom ≤ room) × (b .count < 256) × (b .names + 16 * b .count ≤ length (now s)) ⌝ }
+    ensures { λ r. ⌜ Wrote (now (out .entry)) (now (out .exit)) at r sectionRoom (sectionLines (now (s .entry)) (blockOutcome (now (s .entry)) (kindMeans kind) b)) ⌝ }
 {
-    let entries = put_stamp(out, 0, kind);
+    let entries = put_stamp(out, at, kind);
     let first = put_decimal_line(out, entries, b"entries=", b.count);
     put_entries(s, out, first, kind, b.names, b.count)
 }
 
 // A section with this kind's stamp.
-fn list_kind(s: &[u8], out: &mut [u8; ROOM], kind: Kind) -> usize
-    requires { ⌜ 4 ≤ length (now s) ⌝ }
-    ensures { λ r. ⌜ Wrote (now (out .entry)) (now (out .exit)) 0 r room (sectionLines (now (s .entry)) (run (headerFrom (kindMeans kind)) (now (s .entry)) 4)) ⌝ }
+fn list_kind(s: &[u8], out: &mut [u8; ROOM], at: usize, kind: Kind) -> usize
+    requires { ⌜ (at + sectionRoom ≤ room) × (4 ≤ length (now s)) ⌝ }
+    ensures { λ r. ⌜ Wrote (now (out .entry)) (now (out .exit)) at r sectionRoom (sectionLines (now (s .entry)) (run (headerFrom (kindMeans kind)) (now (s .entry)) 4)) ⌝ }
 {
     match read_section(s) {
-        BlockRead::Refused(n) => put_answer(out, 0, n as usize),
-        BlockRead::Whole(b) => list_block(s, out, kind, b),
+        BlockRead::Refused(n) => put_answer(out, at, n as usize),
+        BlockRead::Whole(b) => list_block(s, out, at, kind, b),
+    }
+}
+
+// All that stands below the first line.
+fn list_body(s: &[u8], out: &mut [u8; ROOM], at: usize) -> usize
+    requires { ⌜ at + sectionRoom ≤ room ⌝ }
+    ensures { λ r. ⌜ Wrote (now (out .entry)) (now (out .exit)) at r sectionRoom (body (now (s .entry))) ⌝ }
+{
+    if 65536 < s.len() {
+        return put_answer(out, at, 13);
+    }
+    match read_stamp(s) {
+        StampRead::Refused(n) => put_answer(out, at, n as usize),
+        StampRead::Whole(kind) => list_kind(s, out, at, kind),
     }
 }
 
@@ -171,11 +188,6 @@ fn list_kind(s: &[u8], out: &mut [u8; ROOM], kind: Kind) -> usize
 pub fn list_section(s: &[u8], out: &mut [u8; ROOM]) -> usize
     ensures { λ r. ⌜ Wrote (now (out .entry)) (now (out .exit)) 0 r room (listing (now (s .entry))) ⌝ }
 {
-    if 65536 < s.len() {
-        return put_answer(out, 0, 13);
-    }
-    match read_stamp(s) {
-        StampRead::Refused(n) => put_answer(out, 0, n as usize),
-        StampRead::Whole(kind) => list_kind(s, out, kind),
-    }
+    let below = put_decimal_line(out, 0, b"listing=", 2);
+    list_body(s, out, below)
 }

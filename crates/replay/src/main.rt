@@ -1,9 +1,9 @@
 // Runs a stored list of calls and prints what each answers: a line with the number and then all that the call was lent, as it stands
 // afterwards. The file stdout beside this folder holds what the Rust answers.
 //
-// The list is how many calls there are, in two bytes; each call in 32 bytes: its code, entry, object or track, axis or channel, the frame in
-// two bytes, the place (or a value's index) and the room of a lent slice, a name of sixteen bytes, the section's place in the list and its
-// length, four bytes each; and then the sections.
+// The list is how many calls there are, in two bytes; each call in 33 bytes: its code, entry, object or track in two bytes, axis or channel,
+// the frame in two bytes, the place (or a value's index) and the room of a lent slice, a name of sixteen bytes, the section's place in the
+// list and its length, four bytes each; and then the sections.
 mod print;
 mod stored;
 
@@ -17,11 +17,11 @@ fn run_call(list: &[u8], at: usize) {
     if list.len() < at {
         return;
     }
-    if list.len() - at < 32 {
+    if list.len() - at < 33 {
         return;
     }
-    let start = word32(list, at + 24) as usize;
-    let length = word32(list, at + 28) as usize;
+    let start = word32(list, at + 25) as usize;
+    let length = word32(list, at + 29) as usize;
     if list.len() < start {
         return;
     }
@@ -33,7 +33,7 @@ fn run_call(list: &[u8], at: usize) {
 
 fn run_calls(list: &[u8], calls: u16) {
     for i in 0..calls {
-        run_call(list, 2 + 32 * (i as usize));
+        run_call(list, 2 + 33 * (i as usize));
     }
 }
 

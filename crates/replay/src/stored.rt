@@ -49,18 +49,17 @@ fn wide(x: u8) -> usize {
 }
 
 fn call_of(b: &[u8]) -> Call
-    requires { ⌜ 24 ≤ length (now b) ⌝ }
+    requires { ⌜ 25 ≤ length (now b) ⌝ }
 {
     Call {
         code: b[0],
         entry: wide(b[1]),
-        index: wide(b[2]),
-        part: wide(b[3]),
-        frame: word16(b, 4),
-        place: wide(b[6]),
-        room: wide(b[7]),
+        index: word16(b, 2) as usize,
+        part: wide(b[4]),
+        frame: word16(b, 5),
+        place: wide(b[7]),
+        room: wide(b[8]),
         name: [
-            b[8],
             b[9],
             b[10],
             b[11],
@@ -76,6 +75,7 @@ fn call_of(b: &[u8]) -> Call
             b[21],
             b[22],
             b[23],
+            b[24],
         ],
     }
 }
@@ -219,7 +219,7 @@ fn run_matrix(s: &[u8], c: Call) {
 
 // The call that 24 bytes stand for, on a section.
 pub fn run(s: &[u8], call: &[u8])
-    requires { ⌜ 24 ≤ length (now call) ⌝ }
+    requires { ⌜ 25 ≤ length (now call) ⌝ }
 {
     let c = call_of(call);
     let code = c.code;

@@ -1,1 +1,2 @@
+pub mod DigitsLaws
 pub mod WritesLaws

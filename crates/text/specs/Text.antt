@@ -1,6 +1,6 @@
 -- Text as bytes: numbers, and lines of a key and a value. Assumes nothing.
 use Prim.Native.Char.{code}
-use Prim.Native.Nat.{ℕ, zero, suc, _+_, _/_, _%_}
+use Prim.Native.Nat.{ℕ, zero, suc, _+_, _-_, _*_, _/_, _%_}
 use Prim.Native.String.{String}
 use mathlib.Core.Bool.{cond}
 use mathlib.Core.List.{List, [], _∷_, _++_}
@@ -28,6 +28,14 @@ places (suc most) n = cond (ltb n 10) 1 (suc (places most (n / 10)))
 -- twenty digits hold every number of 64 bits
 abbrev pub decimal : ℕ → List ℕ
 decimal n = digits (places 20 n) n
+
+-- the number that decimal digits tell, if those in front of them told `front`
+unfoldable pub numeralFrom : ℕ → List ℕ → ℕ
+numeralFrom front [] = front
+numeralFrom front (d ∷ ds) = numeralFrom (10 * front + (d - 48)) ds
+
+abbrev pub numeral : List ℕ → ℕ
+numeral ds = numeralFrom 0 ds
 
 -- lower case
 abbrev pub hexDigit : ℕ → ℕ

@@ -71,7 +71,7 @@ pub fn section(s: &[u8], rng: &mut Rng, counts: &mut Counts) -> Agreed {
             agree!(motion::find(s, &[0; 16]), Err(Refusal(n)), "finding in a refused section");
             agree!(motion::check(s, 0), Err(Refusal(n)), "the check in a refused section");
             agree!(motion::number(s, 7), n, "the number of a check in a refused section");
-            agree!(motion::list(s), format!("answer={n}\n"), "the listing of a refused section");
+            agree!(motion::list(s), format!("listing=2\nanswer={n}\n"), "the listing of a refused section");
             let number = if s.len() < 4 || s.starts_with(b"JNT0") { n } else { 1 };
             agree!(motion::scale_value(s, 0, 0, 0, 0), Err(Refusal(number)), "a scale's value in a refused section");
             counts.refused[n as usize] += 1;
@@ -79,9 +79,9 @@ pub fn section(s: &[u8], rng: &mut Rng, counts: &mut Counts) -> Agreed {
         }
         Ok(entries) => entries,
     };
-    agree!(read.iter().filter(|e| e.value.is_ok()).count(), oracle::kept(s), "the entries that the Rust keeps");
+    agree!(read.iter().filter(|e| e.read).count(), oracle::kept(s), "the entries that the Rust keeps");
     finding(s, &read, counts)?;
-    totals(s, &read)?;
+    listing(s, &read)?;
     agree!(motion::check(s, read.len()), Err(Refusal(9)), "the entry after the last");
     agree!(motion::check(s, usize::MAX), Err(Refusal(9)), "the last index there is");
     let number = if s.starts_with(b"JNT0") { 9 } else { 1 };
@@ -121,28 +121,38 @@ fn finding(s: &[u8], read: &[Entry], counts: &mut Counts) -> Agreed {
     Ok(())
 }
 
-/// The totals under the listing, by what the Rust has read. A section of more than 65,536 bytes is not listed.
-fn totals(s: &[u8], read: &[Entry]) -> Agreed {
+/// The listing, by what the Rust has read; the reach is the check's, which is held to the Rust by itself. A section of more than 65,536 bytes
+/// is not listed.
+fn listing(s: &[u8], read: &[Entry]) -> Agreed {
     if s.len() > 65_536 {
-        agree!(motion::list(s), "answer=13\n", "the listing of a long section");
+        agree!(motion::list(s), "listing=2\nanswer=13\n", "the listing of a long section");
         return Ok(());
     }
-    let whole: Vec<_> = read.iter().filter(|e| !oracle::too_many_objects(s, e.offset)).filter_map(|e| e.value.as_ref().ok()).collect();
-    let samples: usize = whole.iter().map(|v| oracle::samples(v)).sum();
-    let expected = format!("accepted={}\nrefused={}\nsamples={samples}\n", whole.len(), read.len() - whole.len());
-    let listing = motion::list(s);
-    let lines: Vec<_> = listing.split_inclusive('\n').collect();
-    agree!(lines[lines.len() - 3..].concat(), expected, "the totals under the listing");
+    let stamp = String::from_utf8_lossy(&s[..4]);
+    let mut expected = format!("listing=2\nsection={stamp}\nentries={}\n", read.len());
+    let (mut accepted, mut samples) = (0, 0);
+    for (i, e) in read.iter().enumerate() {
+        let name: String = e.name.iter().map(|b| format!("{b:02x}")).collect();
+        expected += &format!("entry={i}\nname={name}\n");
+        match &e.value {
+            Err(n) => expected += &format!("answer={n}\n"),
+            Ok(value) => {
+                let reach = motion::check(s, i).map_or(0, |r| r.reach);
+                let (frames, count) = oracle::frames_and_count(value);
+                let count = if s.starts_with(b"JNT0") { format!("objects={count:03}") } else { format!("tracks={count}") };
+                expected += &format!("answer=0\nreach={reach}\nframes={frames}\n{count}\n");
+                accepted += 1;
+                samples += oracle::samples(value);
+            }
+        }
+    }
+    expected += &format!("accepted={accepted}\nrefused={}\nsamples={samples}\n", read.len() - accepted);
+    agree!(motion::list(s), expected, "the listing");
     Ok(())
 }
 
 fn entry(s: &[u8], i: usize, e: Entry, rng: &mut Rng, counts: &mut Counts) -> Agreed {
     counts.entries += 1;
-    if oracle::too_many_objects(s, e.offset) {
-        agree!(motion::check(s, i), Err(Refusal(12)), "more than 99 objects");
-        counts.refused[12] += 1;
-        return Ok(());
-    }
     let value = match e.value {
         Err(n) => {
             agree!(motion::check(s, i), Err(Refusal(n)), "the check of a refused entry");

@@ -41,7 +41,7 @@ fn kept<T: PartialEq>(before: &[T], after: &[T], place: usize, written: usize) -
     }
 }
 
-/// What every call answers on an entry: its index, its frames and its objects or tracks, past the last too.
+/// What every call answers on an entry, of its first three objects or tracks, its last, and past it.
 fn answers(s: &[u8], i: usize, count: usize, fill: &Fill) -> Result<Vec<Answer>, String> {
     let mut all = vec![words(motion::check(s, i), |r| {
         let name = u128::from_le_bytes(r.name);
@@ -51,7 +51,7 @@ fn answers(s: &[u8], i: usize, count: usize, fill: &Fill) -> Result<Vec<Answer>,
     let name = |n: [u8; 16]| n.iter().map(|&b| b as u64).collect();
     all.push(words(motion::texture_names(s, i), place));
     all.push(words(motion::palette_names(s, i), place));
-    for k in 0..=count.min(3) {
+    for k in (0..=count).filter(|&k| k < 3 || k + 1 >= count) {
         for frame in [0, 1, 3, 7, 200] {
             all.push(words(motion::matrix(s, i, k, frame), |m| floats(m.as_flattened())));
             all.push(words(motion::uv_matrix(s, i, k, frame), |m| floats(m.as_flattened())));

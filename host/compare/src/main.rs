@@ -155,6 +155,11 @@ fn main() {
         run.section("scales", &s);
         run.cuts(&s);
     }
+    // crowd scenes
+    for s in sections::CROWDS.into_iter().flat_map(sections::damaged_crowd) {
+        run.section("crowd scenes", &s);
+        run.cuts(&s);
+    }
     // the longest lists there are
     for s in [sections::walk_cycle(1, 4095), sections::scroll(1, 65535)] {
         run.section("longest lists", &s);

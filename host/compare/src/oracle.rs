@@ -19,7 +19,9 @@ pub enum Value {
 pub struct Entry {
     pub name: [u8; 16],
     pub offset: usize,
-    /// The value, or the number that the Rust's message stands for.
+    /// Whether the Rust reads it.
+    pub read: bool,
+    /// The value; or the number that the Rust's message stands for, or 12, which the Rust does not have.
     pub value: std::result::Result<Value, u32>,
 }
 
@@ -57,9 +59,20 @@ pub fn read(s: &[u8]) -> std::result::Result<Vec<Entry>, u32> {
             b"SRT0" => read_mat_anim(cur + off, name).map(Value::Srt),
             _ => read_pattern(cur + off, name).map(Value::Pat),
         };
-        entries.push(Entry { name: name.0, offset: off as usize, value: value.map_err(|e| number(&e.to_string())) });
+        let (offset, read) = (off as usize, value.is_ok());
+        let value = if too_many_objects(s, offset) { Err(12) } else { value.map_err(|e| number(&e.to_string())) };
+        entries.push(Entry { name: name.0, offset, read, value });
     }
     Ok(entries)
+}
+
+/// Its frames, and its objects or tracks.
+pub fn frames_and_count(value: &Value) -> (u16, usize) {
+    match value {
+        Value::Jnt(a) => (a.num_frames, a.objects_curves.len()),
+        Value::Srt(a) => (a.num_frames, a.tracks.len()),
+        Value::Pat(a) => (a.num_frames, a.material_tracks.len()),
+    }
 }
 
 /// How many values the lists of an entry have, a pattern's keys among them.
@@ -86,8 +99,8 @@ pub fn kept(s: &[u8]) -> usize {
     cont.animations.len() + cont.mat_anims.len() + cont.patterns.len()
 }
 
-/// Whether an entry's header is whole and right, but for more than 99 objects: document 01's number 12, which the Rust does not have.
-pub fn too_many_objects(s: &[u8], offset: usize) -> bool {
+/// Whether an entry's header is whole and right, but for more than 999 objects.
+fn too_many_objects(s: &[u8], offset: usize) -> bool {
     let head = || -> Result<bool> {
         let mut c = Cur::new(s) + offset;
         let stamp = c.next_n_u8s(4)?;
@@ -95,7 +108,7 @@ pub fn too_many_objects(s: &[u8], offset: usize) -> bool {
         let objects = c.next::<u16>()?;
         c.next_n::<u32>(3)?;
         c.next_n::<u16>(objects as usize)?;
-        Ok(stamp == b"J\0AC" && frames != 0 && objects > 99)
+        Ok(stamp == b"J\0AC" && frames != 0 && objects > 999)
     };
     s.starts_with(b"JNT0") && head().unwrap_or(false)
 }

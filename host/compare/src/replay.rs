@@ -1,8 +1,8 @@
 //! The stored list that crates/replay runs with no Rust at hand: sections with calls on them, and what the Rust answers to each.
 //!
-//! The list is how many calls there are, in two bytes; each call in 32 bytes: its code, entry, object or track, axis or channel, the frame in
-//! two bytes, the place (or a value's index) and the room of a lent slice, a name of sixteen bytes, the section's place in the list and its
-//! length, four bytes each; and then the sections. An answer is a line: the number, then every word and every float's bits that the call was
+//! The list is how many calls there are, in two bytes; each call in 33 bytes: its code, entry, object or track in two bytes, axis or channel,
+//! the frame in two bytes, the place (or a value's index) and the room of a lent slice, a name of sixteen bytes, the section's place in the
+//! list and its length, four bytes each; and then the sections. An answer is a line: the number, then every word and every float's bits that the call was
 //! lent, as they stand afterwards, in sixteen hex digits, and every byte in two. Where the Rust's answer is one of the intended differences
 //! (9 to 12), document 01's number stands; the second number of a scale's value, which the Rust drops, is read from the bytes by the layout.
 use crate::layout;
@@ -11,11 +11,14 @@ use crate::rng::Rng;
 use crate::sections;
 use apicula::nitro::animation::Curve;
 
+/// The bytes of a call.
+const SIZE: usize = 33;
+
 #[derive(Clone, Copy, Default)]
 struct Call {
     code: u8,
     entry: u8,
-    index: u8,
+    index: u16,
     part: u8,
     frame: u16,
     place: u8,
@@ -63,8 +66,8 @@ impl Lent {
 
 impl Call {
     fn bytes(&self, section: usize, length: usize) -> Vec<u8> {
-        let [lo, hi] = self.frame.to_le_bytes();
-        let head = [self.code, self.entry, self.index, self.part, lo, hi, self.place, self.room];
+        let ([index, above], [frame, later]) = (self.index.to_le_bytes(), self.frame.to_le_bytes());
+        let head = [self.code, self.entry, index, above, self.part, frame, later, self.place, self.room];
         [&head[..], &self.name, &(section as u32).to_le_bytes(), &(length as u32).to_le_bytes()].concat()
     }
 
@@ -155,9 +158,6 @@ fn answer(s: &[u8], call: &Call, lent: &mut Lent) -> Result<(), u32> {
         return Err(9);
     }
     let entry = entries.swap_remove(at);
-    if oracle::too_many_objects(s, entry.offset) {
-        return Err(12);
-    }
     let value = entry.value?;
     let index = call.index as usize;
     let part = call.part as usize;
@@ -265,7 +265,7 @@ fn call(s: &[u8], code: u8, rng: &mut Rng) -> Call {
     Call {
         code,
         entry: if rng.once_in(12) { rng.below(5) as u8 } else { 0 },
-        index: rng.below(3) as u8,
+        index: rng.below(3) as u16,
         part: rng.below(if code == CHANNEL { 6 } else { 4 }) as u8,
         frame: rng.below(14) as u16,
         place: rng.below(4) as u8,
@@ -339,11 +339,24 @@ pub fn stored(sections: usize) -> (Vec<u8>, String) {
         let calls = (0..4).map(|axis| at(SCALE, axis, 0)).chain(values).collect();
         kept.push((s, calls));
     }
+    // crowd scenes: the first objects, one past the first 255, the last and the one after it
+    for objects in sections::CROWDS {
+        let of_object = |index| {
+            let at = move |code, part, frame, room| Call { code, index, part, frame, room, ..Call::default() };
+            let curves = [TRANSLATION, ROTATION, SCALE, SCALE_VALUE].map(|code| at(code, 1, 0, 0));
+            let resampled = [RESAMPLE_TRANSLATION, RESAMPLE_SCALE].map(|code| at(code, 0, 0, 40));
+            let matrices = [0, 3, 7, 200].map(|frame| at(MATRIX, 0, frame, 128));
+            [&curves[..], &resampled, &matrices].concat()
+        };
+        let entry = [RECORD, CHECK].map(|code| Call { code, ..Call::default() });
+        let asked = [0, 1, 5, 256, objects - 1, objects].map(|o| of_object(o as u16)).concat();
+        kept.push((sections::crowd(objects), [&entry[..], &asked].concat()));
+    }
     let count: usize = kept.iter().map(|(_, calls)| calls.len()).sum();
     let (mut list, mut behind, mut lines) = ((count as u16).to_le_bytes().to_vec(), Vec::new(), String::new());
     for (s, calls) in kept {
         for c in calls {
-            list.extend(c.bytes(2 + 32 * count + behind.len(), s.len()));
+            list.extend(c.bytes(2 + SIZE * count + behind.len(), s.len()));
             let mut lent = c.lent();
             let number = answer(&s, &c, &mut lent).err().unwrap_or(0);
             lines += &lent.line(number);

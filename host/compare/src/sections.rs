@@ -1,4 +1,6 @@
 //! Sections to compare on: laid out from their parts, then damaged.
+use crate::layout;
+use crate::oracle;
 use crate::rng::Rng;
 
 fn put16(out: &mut Vec<u8>, x: usize) {
@@ -92,11 +94,12 @@ fn numbers(rng: &mut Rng, n: usize) -> Vec<u8> {
     }
 }
 
-/// A JNT0 entry whose objects have these flags.
-pub fn animation(flags: &[u16], rng: &mut Rng) -> Vec<u8> {
+/// A JNT0 entry of so many objects: those with these flags serve in turn.
+fn animation(flags: &[u16], objects: usize, rng: &mut Rng) -> Vec<u8> {
     let longest = if rng.once_in(30) { 300 } else { 12 };
     let (pivots, bases) = (1 + rng.below(3), 1 + rng.below(3));
-    let fields = 20 + 2 * flags.len() + flags.len() * 72;
+    let first = 20 + 2 * objects;
+    let fields = first + flags.len() * 72;
     let mut pool = Pool { base: fields, bytes: Vec::new() };
     let mut pivot = Vec::new();
     for _ in 0..pivots {
@@ -113,10 +116,10 @@ pub fn animation(flags: &[u16], rng: &mut Rng) -> Vec<u8> {
         }
     };
 
-    let mut objects = Vec::new();
+    let mut bytes = Vec::new();
     let mut offsets = Vec::new();
     for &flag in flags {
-        offsets.push(20 + 2 * flags.len() + objects.len());
+        offsets.push(first + bytes.len());
         let mut o = Vec::new();
         put16(&mut o, flag as usize);
         o.extend([0, 0]);
@@ -157,18 +160,18 @@ pub fn animation(flags: &[u16], rng: &mut Rng) -> Vec<u8> {
                 axes(&mut o, rng, &mut pool, 11, 2);
             }
         }
-        objects.extend(o);
+        bytes.extend(o);
     }
-    objects.resize(flags.len() * 72, 0);
+    bytes.resize(flags.len() * 72, 0);
 
     let mut e = b"J\0AC".to_vec();
     put16(&mut e, if rng.once_in(50) { 0 } else { 1 + rng.below(60) });
-    put16(&mut e, flags.len());
+    put16(&mut e, objects);
     put32(&mut e, 0);
     put32(&mut e, pivot_off);
     put32(&mut e, basis_off);
-    offsets.iter().for_each(|&o| put16(&mut e, o));
-    e.extend(objects);
+    offsets.iter().cycle().take(objects).for_each(|&o| put16(&mut e, o));
+    e.extend(bytes);
     e.extend(pool.bytes);
     e
 }
@@ -189,14 +192,43 @@ fn flags(rng: &mut Rng) -> u16 {
 
 fn random_animation(rng: &mut Rng) -> Vec<u8> {
     let n = match rng.below(200) {
-        0 => 99 + rng.below(3),
+        0 if rng.once_in(20) => rng.pick(&[240, 998, 999]),
+        0 => rng.pick(&[99, 100, 1000, 1001]),
         k => k % 4,
     };
-    let f: Vec<_> = (0..n).map(|_| if n > 50 { 1 } else { flags(rng) }).collect();
-    animation(&f, rng)
+    // a crowd stands still
+    let f: Vec<_> = if n > 50 { vec![1] } else { (0..n).map(|_| flags(rng)).collect() };
+    animation(&f, n, rng)
 }
 
-/// A JNT0 section whose entry has a hundred objects, one more than is read, and none of them stands there.
+/// How many objects the crowd scenes have: as many as were once the most, one more, the crowd that was asked for, the most, and one more.
+pub const CROWDS: [usize; 5] = [99, 100, 240, 999, 1000];
+
+/// A crowd scene: a JNT0 section with one entry of so many objects, and some bytes behind its reach. Seven serve in turn: with lists alone, with
+/// constants alone, without translation, rotation and scale, with both, and a still one. So no object is like the one 256 further on.
+pub fn crowd(objects: usize) -> Vec<u8> {
+    let flags = [0, 0x3938, 0x0002, 0x0040, 0x0200, 0x1110, 0x0001];
+    let scene = |seed| {
+        let entry = animation(&flags, objects, &mut Rng::new(seed));
+        [section(b"JNT0", &[entry], &mut Rng::new(1)), vec![0xee; 5]].concat()
+    };
+    // the first in which every curve's start is below its end
+    (0..).map(scene).find(|s| oracle::read(s).is_ok_and(|entries| entries[0].read)).unwrap()
+}
+
+/// A crowd scene as it is, without frames, and with another stamp.
+pub fn damaged_crowd(objects: usize) -> [Vec<u8>; 3] {
+    let whole = crowd(objects);
+    let entry = layout::entry(&whole, 0);
+    let with = |at: usize, bytes: [u8; 2]| {
+        let mut s = whole.clone();
+        s[entry + at..][..2].copy_from_slice(&bytes);
+        s
+    };
+    [whole.clone(), with(4, [0, 0]), with(2, *b"AX")]
+}
+
+/// A JNT0 section whose entry has a hundred objects, and none of them stands there.
 pub fn hundred() -> Vec<u8> {
     let mut e = b"J\0AC\x01\0\x64\0".to_vec();
     e.resize(20 + 2 * 100, 0);
@@ -358,7 +390,7 @@ fn damage(s: &mut Vec<u8>, rng: &mut Rng) {
 
 /// One object with every value of its flags in turn.
 pub fn with_flags(flag: u16, rng: &mut Rng) -> Vec<u8> {
-    let entry = animation(&[flag], rng);
+    let entry = animation(&[flag], 1, rng);
     section(b"JNT0", &[entry], rng)
 }
 

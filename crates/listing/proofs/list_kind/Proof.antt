@@ -13,7 +13,7 @@ list-block-requires c κs =
     let w2 = c .before .before in
     let w1 = w2 .before .before in
     let h = known (w2 .b .given .1) (w1 .read-section .ensures) in
-    (h .holds .few, omega (arith, h .holds .names-end, h .holds .inside))
+    (omega arith, h .holds .few, omega (arith, h .holds .names-end, h .holds .inside))
 
 returns : tie.Need-returns
 returns c =

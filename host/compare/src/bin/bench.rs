@@ -115,7 +115,8 @@ fn main() {
     println!("|---|---|---|---|---|");
     joints("the printed 86 bytes", motion::example::WALK, 5);
     joints("a walk cycle, 30 objects, 40 frames", &sections::walk_cycle(30, 40), 17);
-    joints("the largest entry, 99 objects, lists of 4,095", &sections::walk_cycle(99, 4095), 1777);
+    joints("a crowd scene, 240 objects, 40 frames", &sections::walk_cycle(240, 40), 17);
+    joints("a large entry, 99 objects, lists of 4,095", &sections::walk_cycle(99, 4095), 1777);
     let srt = sections::scroll(20, 40);
     row(
         "an SRT0 entry, 20 tracks, 40 frames",
