@@ -59,10 +59,15 @@ fn crowds() {
         assert!(listing.contains(&format!("\nreach={}\nframes=12\nobjects={objects:03}\n", section.len())), "{listing}");
         assert_eq!(motion("check - 0", &section[..section.len() - 1]), ("".into(), 1));
     }
-    for words in ["check - 0", "matrix - 0 0 5", "curve - 0 0 translation 0", "scale - 0 0 0 0", "resample - 0 0 scale"] {
-        assert_eq!(motion(words, &crowd(1000)), ("".into(), 1), "{words}");
-    }
-    let (listing, status) = motion("list -", &crowd(1000));
+    let many = crowd(1000);
+    assert_eq!(motion::check(&many, 0), Err(motion::Refusal(12)));
+    assert_eq!(motion::matrix(&many, 0, 0, 5), Err(motion::Refusal(12)));
+    assert_eq!(motion::rotation_curve(&many, 0, 0), Err(motion::Refusal(12)));
+    assert_eq!(motion::scale_value(&many, 0, 0, 0, 0), Err(motion::Refusal(12)));
+    assert_eq!(motion::resample_scale(&many, 0, 0, &mut [], 0), Err(motion::Refusal(12)));
+    assert_eq!(motion::check(&many[..48 + 20 + 2 * 1000 - 1], 0), Err(motion::Refusal(2)));
+    assert_eq!(motion("check - 0", &many), ("".into(), 1));
+    let (listing, status) = motion("list -", &many);
     assert!(listing.ends_with("\nanswer=12\naccepted=0\nrefused=1\nsamples=0\n"), "{listing}");
     assert_eq!(status, 0);
 }

@@ -255,7 +255,7 @@ abbrev repeated : ℕ → List ℕ → List ℕ
 repeated zero bs = []
 repeated (suc n) bs = bs ++ repeated n bs
 
--- n objects, all at 8 of the entry, where a word of no use makes one that nothing animates
+-- n objects, all at 8 of the entry: the word there, which the header has no use for, makes one that nothing animates
 abbrev pub crowd : ℕ → List ℕ
 crowd n =
     stampOf jnt ++ u32 0 ++ block 1 4 (u32 48) (zeros 16)

@@ -23,13 +23,13 @@ stampText jnt = "JNT0"
 stampText srt = "SRT0"
 stampText pat = "PAT0"
 
--- the digits that objects are told in: they hold the greatest count that is accepted
-abbrev pub objectDigits : ℕ
-objectDigits = 3
+-- objects are told in three digits, which hold the greatest count that is accepted
+abbrev pub objectDigits : ℕ → List ℕ
+objectDigits n = digits 3 n
 
--- objects with leading zeros, tracks unpadded
+-- tracks unpadded
 abbrev pub countLine : Kind → ℕ → List ℕ
-countLine jnt n = line "objects" (digits objectDigits n)
+countLine jnt n = line "objects" (objectDigits n)
 countLine srt n = line "tracks" (decimal n)
 countLine pat n = line "tracks" (decimal n)
 
@@ -90,7 +90,7 @@ unfoldable pub sectionLines : List ℕ → Outcome Header → List ℕ
 sectionLines s (accepted m h) = let n = h .block .count in entryListing s h ++ totalLines (acceptedIn s n) (refusedIn s n) (samplesIn s n)
 sectionLines s (refused n) = line "answer" (decimal n)
 
--- over 65,536 bytes are refused first of all, 13
+-- what stands below the first line. Over 65,536 bytes are refused first of all, 13
 unfoldable pub body : List ℕ → List ℕ
 body s = cond (ltb 65536 (length s)) (line "answer" (decimal 13)) (sectionLines s (run header s 0))
 
@@ -103,7 +103,7 @@ listing s = formLine ++ body s
 
 -- no digit of a count is lost: what stands after objects= tells the objects of every accepted entry. Proved in proofs/ObjectsTold.antt.
 abbrev pub ObjectsTold : List ℕ → Type 0
-ObjectsTold s = (i m : ℕ) (e : EntryRecord) → answer (check i) s ≡ accepted m e → numeral (digits objectDigits (e .count)) ≡ e .count
+ObjectsTold s = (i m : ℕ) (e : EntryRecord) → answer (check i) s ≡ accepted m e → numeral (objectDigits (e .count)) ≡ e .count
 
 -- ---- the printed example, and others
 

@@ -217,7 +217,7 @@ fn run_matrix(s: &[u8], c: Call) {
     print_matrix(n, &out);
 }
 
-// The call that 24 bytes stand for, on a section.
+// The call that 25 bytes stand for, on a section.
 pub fn run(s: &[u8], call: &[u8])
     requires { ⌜ 25 ≤ length (now call) ⌝ }
 {

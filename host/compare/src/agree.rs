@@ -178,10 +178,10 @@ fn entry(s: &[u8], i: usize, e: Entry, rng: &mut Rng, counts: &mut Counts) -> Ag
     let record = motion::check(s, i).map_err(|n| format!("{n}, where the Rust accepts"))?;
     agree!(motion::number(s, i), 0, "the number of an accepted entry");
     agree!(record.name, e.name, "the name");
+    agree!((record.frames, record.count), oracle::frames_and_count(&value), "frames, and objects or tracks");
     reach(s, i, record.reach)?;
     match value {
         Value::Jnt(a) => {
-            agree!((record.frames, record.count), (a.num_frames, a.objects_curves.len()), "frames and objects");
             agree!(motion::matrix(s, i, record.count, 0), Err(Refusal(9)), "the object after the last");
             agree!(motion::scale_value(s, i, record.count, 0, 0), Err(Refusal(9)), "a scale's value of the object after the last");
             for (o, curves) in a.objects_curves.into_iter().enumerate() {
@@ -189,7 +189,6 @@ fn entry(s: &[u8], i: usize, e: Entry, rng: &mut Rng, counts: &mut Counts) -> Ag
             }
         }
         Value::Srt(a) => {
-            agree!((record.frames, record.count), (a.num_frames, a.tracks.len()), "frames and tracks");
             agree!(motion::uv_matrix(s, i, record.count, 0), Err(Refusal(9)), "the track after the last");
             for (t, track) in a.tracks.iter().enumerate() {
                 agree!(motion::material_name(s, i, t), Ok(track.name.0), "the name of track {t}");
@@ -211,7 +210,6 @@ fn entry(s: &[u8], i: usize, e: Entry, rng: &mut Rng, counts: &mut Counts) -> Ag
             }
         }
         Value::Pat(a) => {
-            agree!((record.frames, record.count), (a.num_frames, a.material_tracks.len()), "frames and tracks");
             agree!(motion::choice(s, i, record.count, 0), Err(Refusal(9)), "the track after the last");
             for (ours, place, names) in [
                 (motion::texture_names(s, i), layout::textures(s, i), &a.texture_names),

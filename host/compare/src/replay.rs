@@ -126,7 +126,8 @@ fn put_curve<T: Copy>(lent: &mut Lent, c: &Curve<T>, list: layout::List, say: im
     }
 }
 
-fn put_record(s: &[u8], at: usize, name: [u8; 16], frames: u16, count: usize, lent: &mut Lent) {
+fn put_record(s: &[u8], at: usize, name: [u8; 16], value: &Value, lent: &mut Lent) {
+    let (frames, count) = oracle::frames_and_count(value);
     put(&mut lent.words, &name_words(name));
     put(&mut lent.words[2..], &[reach(s, at), frames as u64, count as u64]);
 }
@@ -163,11 +164,8 @@ fn answer(s: &[u8], call: &Call, lent: &mut Lent) -> Result<(), u32> {
     let part = call.part as usize;
     match value {
         _ if call.code == CHECK => {}
+        _ if call.code == RECORD => put_record(s, at, entry.name, &value, lent),
         Value::Jnt(a) => {
-            if call.code == RECORD {
-                put_record(s, at, entry.name, a.num_frames, a.objects_curves.len(), lent);
-                return Ok(());
-            }
             let curves = a.objects_curves.into_iter().nth(index).ok_or(9u32)?;
             let lists = layout::object(s, at, index);
             match call.code {
@@ -210,10 +208,6 @@ fn answer(s: &[u8], call: &Call, lent: &mut Lent) -> Result<(), u32> {
             }
         }
         Value::Srt(a) => {
-            if call.code == RECORD {
-                put_record(s, at, entry.name, a.num_frames, a.tracks.len(), lent);
-                return Ok(());
-            }
             let track = a.tracks.get(index).ok_or(9u32)?;
             match call.code {
                 CHANNEL => {
@@ -226,10 +220,6 @@ fn answer(s: &[u8], call: &Call, lent: &mut Lent) -> Result<(), u32> {
         }
         Value::Pat(a) => {
             let words = match call.code {
-                RECORD => {
-                    put_record(s, at, entry.name, a.num_frames, a.material_tracks.len(), lent);
-                    return Ok(());
-                }
                 TEXTURES => [layout::textures(s, at) as u64, a.texture_names.len() as u64],
                 PALETTES => [layout::palettes(s, at) as u64, a.palette_names.len() as u64],
                 _ => {
@@ -339,7 +329,7 @@ pub fn stored(sections: usize) -> (Vec<u8>, String) {
         let calls = (0..4).map(|axis| at(SCALE, axis, 0)).chain(values).collect();
         kept.push((s, calls));
     }
-    // crowd scenes: the first objects, one past the first 255, the last and the one after it
+    // crowd scenes: some objects, 256, whose number one byte does not hold, the last and the one after it
     for objects in sections::CROWDS {
         let of_object = |index| {
             let at = move |code, part, frame, room| Call { code, index, part, frame, room, ..Call::default() };

@@ -201,18 +201,19 @@ fn random_animation(rng: &mut Rng) -> Vec<u8> {
     animation(&f, n, rng)
 }
 
-/// How many objects the crowd scenes have: as many as were once the most, one more, the crowd that was asked for, the most, and one more.
+/// How many objects the crowd scenes have: the limit that once was, one more, a crowd, the limit, and one more.
 pub const CROWDS: [usize; 5] = [99, 100, 240, 999, 1000];
 
 /// A crowd scene: a JNT0 section with one entry of so many objects, and some bytes behind its reach. Seven serve in turn: with lists alone, with
-/// constants alone, without translation, rotation and scale, with both, and a still one. So no object is like the one 256 further on.
+/// constants alone, without a translation, without a rotation, without a scale, with lists and constants, and a still one. So no object is the
+/// one 256 further on.
 pub fn crowd(objects: usize) -> Vec<u8> {
     let flags = [0, 0x3938, 0x0002, 0x0040, 0x0200, 0x1110, 0x0001];
     let scene = |seed| {
         let entry = animation(&flags, objects, &mut Rng::new(seed));
         [section(b"JNT0", &[entry], &mut Rng::new(1)), vec![0xee; 5]].concat()
     };
-    // the first in which every curve's start is below its end
+    // the first that the Rust reads: there are frames, and every curve's start is below its end
     (0..).map(scene).find(|s| oracle::read(s).is_ok_and(|entries| entries[0].read)).unwrap()
 }
 
