@@ -48,12 +48,14 @@ uint32_t motion_record(const uint8_t *section, size_t length, size_t entry, uint
 uint32_t motion_find(const uint8_t *section, size_t length, const uint8_t name[16], uint64_t out[2]);
 
 /* A curve of an object or track. out[0] is 0 for none; 1 for a constant, whose value goes to `value`; 2 for a list, with its start, end,
- * place in the section, length and bytes per value in out[1] to out[5]. Axes are 0, 1, 2, channels 0 to 4. A rotation has nine doubles,
- * column by column. A scale has two, its first and its second number; the first is the one that is sampled. */
-uint32_t motion_translation_curve(const uint8_t *section, size_t length, size_t entry, size_t object, size_t axis, uint64_t out[6], double value[1]);
-uint32_t motion_rotation_curve(const uint8_t *section, size_t length, size_t entry, size_t object, uint64_t out[6], double value[9]);
-uint32_t motion_scale_curve(const uint8_t *section, size_t length, size_t entry, size_t object, size_t axis, uint64_t out[6], double value[2]);
-uint32_t motion_channel_curve(const uint8_t *section, size_t length, size_t entry, size_t track, size_t channel, uint64_t out[6], double value[1]);
+ * place in the section, length, bytes per value, rate and rest in out[1] to out[7]. The rate is the stored one, 0 to 3, and 0 in SRT0. The
+ * rest is the frames that it leaves over: end - start is length times 2 to the power of rate, plus rest, and rest is below that power. Axes
+ * are 0, 1, 2, channels 0 to 4. A rotation has nine doubles, column by column. A scale has two, its first and its second number; the first
+ * is the one that is sampled. */
+uint32_t motion_translation_curve(const uint8_t *section, size_t length, size_t entry, size_t object, size_t axis, uint64_t out[8], double value[1]);
+uint32_t motion_rotation_curve(const uint8_t *section, size_t length, size_t entry, size_t object, uint64_t out[8], double value[9]);
+uint32_t motion_scale_curve(const uint8_t *section, size_t length, size_t entry, size_t object, size_t axis, uint64_t out[8], double value[2]);
+uint32_t motion_channel_curve(const uint8_t *section, size_t length, size_t entry, size_t track, size_t channel, uint64_t out[8], double value[1]);
 
 /* One value of an object's scale: its first and its second number. The index counts the values that the curve stores: those of its list, or
  * the one of a constant. */

@@ -67,6 +67,8 @@ pub struct Record {
 }
 
 /// A curve's list: its frames, its place in the section, how many values it has, and the bytes of each.
+///
+/// `end - start` is `length` times 2 to the power of `rate`, plus `rest`, and `rest` is below that power.
 #[derive(Clone, Copy, Debug, PartialEq, Eq)]
 pub struct List {
     pub start: u16,
@@ -74,6 +76,10 @@ pub struct List {
     pub place: usize,
     pub length: usize,
     pub size: usize,
+    /// The stored rate, 0 to 3; 0 in SRT0.
+    pub rate: u16,
+    /// The frames that the rate leaves over.
+    pub rest: u16,
 }
 
 /// The record of a curve.
@@ -130,7 +136,7 @@ mod calls {
             entry: usize,
             object: usize,
             axis: usize,
-            out: *mut [u64; 6],
+            out: *mut super::CurveWords,
             value: *mut [f64; 1],
         ) -> u32;
         pub fn motion_rotation_curve(
@@ -138,7 +144,7 @@ mod calls {
             len: usize,
             entry: usize,
             object: usize,
-            out: *mut [u64; 6],
+            out: *mut super::CurveWords,
             value: *mut [f64; 9],
         ) -> u32;
         pub fn motion_scale_curve(
@@ -147,7 +153,7 @@ mod calls {
             entry: usize,
             object: usize,
             axis: usize,
-            out: *mut [u64; 6],
+            out: *mut super::CurveWords,
             value: *mut [f64; 2],
         ) -> u32;
         pub fn motion_scale_value(
@@ -165,7 +171,7 @@ mod calls {
             entry: usize,
             track: usize,
             channel: usize,
-            out: *mut [u64; 6],
+            out: *mut super::CurveWords,
             value: *mut [f64; 1],
         ) -> u32;
         pub fn motion_uv_matrix(s: *const u8, len: usize, entry: usize, track: usize, frame: u16, out: *mut [f64; 16]) -> u32;
@@ -199,6 +205,9 @@ mod calls {
     }
 }
 
+/// The words that a curve's record may take.
+type CurveWords = [u64; 8];
+
 /// Bytes that hold every listing: MOTION_LIST_ROOM of the header.
 const LISTING: usize = 65_536;
 
@@ -217,7 +226,7 @@ fn name_of(lo: u64, hi: u64) -> [u8; 16] {
     name
 }
 
-fn curve_of<T>(words: [u64; 6], value: T) -> Curve<T> {
+fn curve_of<T>(words: CurveWords, value: T) -> Curve<T> {
     match words[0] {
         0 => Curve::None,
         1 => Curve::Constant(value),
@@ -227,6 +236,8 @@ fn curve_of<T>(words: [u64; 6], value: T) -> Curve<T> {
             place: words[3] as usize,
             length: words[4] as usize,
             size: words[5] as usize,
+            rate: words[6] as u16,
+            rest: words[7] as u16,
         }),
     }
 }
@@ -322,9 +333,12 @@ pub fn matrix_bytes(section: &[u8], entry: usize, object: usize, frame: u16, out
 ///
 /// ```
 /// assert_eq!(motion::translation_curve(motion::example::WALK, 0, 0, 2), Ok(motion::Curve::Constant(0.5)));
+/// // eleven frames at rate 1: five values, and one frame is left over
+/// let eleven = motion::List { start: 0, end: 11, place: 122, length: 5, size: 2, rate: 1, rest: 1 };
+/// assert_eq!(motion::translation_curve(motion::example::SWAY, 0, 0, 0), Ok(motion::Curve::List(eleven)));
 /// ```
 pub fn translation_curve(section: &[u8], entry: usize, object: usize, axis: usize) -> Result<Curve<f64>> {
-    let (mut out, mut value) = ([0; 6], [0.0]);
+    let (mut out, mut value) = (CurveWords::default(), [0.0]);
     let n = unsafe { calls::motion_translation_curve(section.as_ptr(), section.len(), entry, object, axis, &mut out, &mut value) };
     answer(n, curve_of(out, value[0]))
 }
@@ -335,7 +349,7 @@ pub fn translation_curve(section: &[u8], entry: usize, object: usize, axis: usiz
 /// assert_eq!(motion::rotation_curve(motion::example::WALK, 0, 0), Ok(motion::Curve::None));
 /// ```
 pub fn rotation_curve(section: &[u8], entry: usize, object: usize) -> Result<Curve<Rotation>> {
-    let (mut out, mut value) = ([0; 6], [0.0; 9]);
+    let (mut out, mut value) = (CurveWords::default(), [0.0; 9]);
     let n = unsafe { calls::motion_rotation_curve(section.as_ptr(), section.len(), entry, object, &mut out, &mut value) };
     let v = value;
     answer(n, curve_of(out, [[v[0], v[1], v[2]], [v[3], v[4], v[5]], [v[6], v[7], v[8]]]))
@@ -349,7 +363,7 @@ pub fn rotation_curve(section: &[u8], entry: usize, object: usize) -> Result<Cur
 /// assert_eq!(motion::scale_curve(motion::example::GROW, 0, 0, 3), Err(motion::Refusal(9)));
 /// ```
 pub fn scale_curve(section: &[u8], entry: usize, object: usize, axis: usize) -> Result<Curve<Pair>> {
-    let (mut out, mut value) = ([0; 6], [0.0; 2]);
+    let (mut out, mut value) = (CurveWords::default(), [0.0; 2]);
     let n = unsafe { calls::motion_scale_curve(section.as_ptr(), section.len(), entry, object, axis, &mut out, &mut value) };
     answer(n, curve_of(out, pair_of(value)))
 }
@@ -430,7 +444,7 @@ pub fn uv_matrix(section: &[u8], entry: usize, track: usize, frame: u16) -> Resu
 /// assert_eq!(motion::channel_curve(b"SRT", 0, 0, 3), Err(motion::Refusal(2)));
 /// ```
 pub fn channel_curve(section: &[u8], entry: usize, track: usize, channel: usize) -> Result<Curve<f64>> {
-    let (mut out, mut value) = ([0; 6], [0.0]);
+    let (mut out, mut value) = (CurveWords::default(), [0.0]);
     let n = unsafe { calls::motion_channel_curve(section.as_ptr(), section.len(), entry, track, channel, &mut out, &mut value) };
     answer(n, curve_of(out, value[0]))
 }
@@ -515,4 +529,8 @@ pub mod example {
     /// A JNT0 section with the entry `grow`: two frames, and one object, whose scale is constant on x, two values in 1.3.12 on y and one value in
     /// 1.19.12 on z.
     pub const GROW: &[u8] = b"JNT0\x72\0\0\0\0\x01\0\0\0\0\0\0\0\0\0\0\0\0\0\0\x04\0\0\0\x30\0\0\0grow\0\0\0\0\0\0\0\0\0\0\0\0J\0AC\x02\0\x01\0\0\0\0\0\0\0\0\0\0\0\0\0\x16\0\x42\x08\0\0\0\x18\0\0\0\xe0\xff\xff\0\0\x02\x10\x32\0\0\0\0\0\x01\0\x3a\0\0\0\0\x10\0\xfc\0\x20\0\x08\0\x40\x06\0\0\xf8\xff\xff";
+
+    /// A JNT0 section with the entry `sway`: twelve frames, and one object with three lists of eleven frames, in its translation on x at rate 1, in
+    /// its rotation at rate 2 and in its scale on x at rate 3.
+    pub const SWAY: &[u8] = b"JNT0\x96\0\0\0\0\x01\0\0\0\0\0\0\0\0\0\0\0\0\0\0\x04\0\0\0\x30\0\0\0sway\0\0\0\0\0\0\0\0\0\0\0\0J\0AC\x0c\0\x01\0\0\0\0\0\x58\0\0\0\0\0\0\0\x16\0\x30\x30\0\0\0\0\x0b\x60\x4a\0\0\0\0\0\0\0\0\0\0\0\x01\0\x0c\x80\x54\0\0\0\0\0\x0b\xc0\x5e\0\0\0\0\x10\0\0\0\x10\0\0\0\x10\0\0\0\x10\0\0\0\x10\0\x08\0\0\0\xf8\0\xf0\0\x80\0\x80\0\0\0\0\0\0\0\x10\0\0\0\x10\0\0";
 }

@@ -101,7 +101,8 @@ impl Args {
             Curve::None => "no curve\n".into(),
             Curve::Constant(constant) => format!("constant\n{}", value(constant)),
             Curve::List(l) => {
-                format!("list\nstart={}\nend={}\nplace={}\nlength={}\nsize={}\n", l.start, l.end, l.place, l.length, l.size)
+                let motion::List { start, end, place, length, size, rate, rest } = l;
+                format!("list\nstart={start}\nend={end}\nplace={place}\nlength={length}\nsize={size}\nrate={rate}\nrest={rest}\n")
             }
         }
     }

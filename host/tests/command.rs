@@ -76,7 +76,7 @@ fn crowds() {
 fn scales() {
     let grow = motion::example::GROW;
     assert_eq!(motion("curve - 0 0 scale 0", grow), ("constant\nfirst=1.5\nsecond=-2.0\n".into(), 0));
-    assert_eq!(motion("curve - 0 0 scale 1", grow), ("list\nstart=0\nend=2\nplace=98\nlength=2\nsize=4\n".into(), 0));
+    assert_eq!(motion("curve - 0 0 scale 1", grow), ("list\nstart=0\nend=2\nplace=98\nlength=2\nsize=4\nrate=0\nrest=0\n".into(), 0));
     assert_eq!(motion("scale - 0 0 0 0", grow), ("first=1.5\nsecond=-2.0\n".into(), 0));
     assert_eq!(motion("scale - 0 0 1 0", grow), ("first=1.0\nsecond=-0.25\n".into(), 0));
     assert_eq!(motion("scale - 0 0 1 1 --bits", grow), ("first=4000000000000000\nsecond=3fe0000000000000\n".into(), 0));
@@ -90,6 +90,23 @@ fn scales() {
     let (matrix, _) = motion("matrix - 0 0 1", grow);
     assert_eq!(matrix, "column 0: 1.5 0.0 0.0 0.0\ncolumn 1: 0.0 2.0 0.0 0.0\ncolumn 2: 0.0 0.0 100.0 0.0\ncolumn 3: 0.0 0.0 0.0 1.0\n");
     assert_eq!(motion("resample - 0 0 scale", grow), ("start=0\nend=2\nframes=2\n1.5 1.0 100.0\n1.5 2.0 100.0\n".into(), 0));
+}
+
+#[test]
+fn rests() {
+    let list = |start, end, place, length, size, rate, rest| {
+        (format!("list\nstart={start}\nend={end}\nplace={place}\nlength={length}\nsize={size}\nrate={rate}\nrest={rest}\n"), 0)
+    };
+    let sway = motion::example::SWAY;
+    assert_eq!(motion("curve - 0 0 translation 0", sway), list(0, 11, 122, 5, 2, 1, 1));
+    assert_eq!(motion("curve - 0 0 rotation", sway), list(1, 12, 132, 2, 2, 2, 3));
+    assert_eq!(motion("curve - 0 0 scale 0", sway), list(0, 11, 142, 1, 8, 3, 3));
+    // a constant has neither
+    assert_eq!(motion("curve - 0 0 translation 1", sway), ("constant\n0.0\n".into(), 0));
+    // an empty list has both: 3 to 4 at rate 1
+    let mut empty = sway.to_vec();
+    empty[74..78].copy_from_slice(&(3u32 + (4 << 16) + (1 << 30)).to_le_bytes());
+    assert_eq!(motion("curve - 0 0 translation 0", &empty), list(3, 4, 122, 0, 4, 1, 1));
 }
 
 #[test]

@@ -5,8 +5,8 @@ use mathlib.Core.Bool.{Bool, true, false, cond}
 use mathlib.Core.List.{List}
 use mathlib.Core.Path.{_≡_, _∙_}
 use native.Mathlib.Omega.{arith}
-use borrow.Author.Tests.{leb-true}
-use lib.Dec.{leb, eqb, lit≤}
+use borrow.Author.Tests.{leb-true, ltb-true}
+use lib.Dec.{leb, ltb, eqb, lit≤}
 use lib.ListN.{length, getD}
 use lib.Ieee.{Float}
 use Rattle.util.specs.Bits.{bits, bit}
@@ -24,8 +24,8 @@ use Rattle.matrix.proofs.MagnitudeLaws.{Three, Nine, three, translation-below, 
 use Rattle.rotation.proofs.MagnitudeLaws.{pivot-small, basis-small}
 use Rattle.curve.specs.Curve.{none, Pair}
 use Rattle.curve.proofs.MagnitudeLaws.{SizedCurve, SmallPair, firsts-sized, count-few, scalar-sized, rotation-sized, number-small, pair-small, sized}
-use Rattle.animation.specs.Animation.{PerAxis, Axes, Object, Animation, noAxes, axesSamples, objectSamples, mostObjects, Triple, translation, scale, Value, firstNumbers, valueFrom, leftOutBit, valuesOf, widthOf, formatOf, scalarList, scalar, axes, animatedAxes, pivotOf, basisOf, Referred, pivotRecord, basisRecord, referred, reference, rotationList, rotation, animatedRotation, animated, object, animation, axesAt, matrixAt}
-use Rattle.animation.proofs.ScalarLaws.{end-lt, values-le}
+use Rattle.animation.specs.Animation.{PerAxis, Axes, Object, Animation, noAxes, axesSamples, objectSamples, mostObjects, Triple, translation, scale, Value, firstNumbers, valueFrom, leftOutBit, startOf, endOf, valuesOf, widthOf, formatOf, curveWord, listFields, scalarList, scalar, axes, animatedAxes, pivotOf, basisOf, Referred, pivotRecord, basisRecord, referred, reference, rotationList, rotation, animatedRotation, animated, object, animation, axesAt, matrixAt}
+use Rattle.animation.proofs.ScalarLaws.{end-lt, word-told}
 
 pub record SizedAxes {A : Type 0} (P : A → Type 0) (a : PerAxis A) : Type 0 where
   pub x : SizedCurve P (a .x)
@@ -87,22 +87,30 @@ format-width w = go (eqb (widthOf w) 0)
     go true = lit≤ tt
     go false = lit≤ tt
 
-few : (w : ℕ) → valuesOf w < 65536
-few w = let h = values-le w in omega arith
+-- of the fields of a list: its curve word runs forward
+abbrev Onward : ℕ × ℕ → Type 0
+Onward f = startOf (f .0) < endOf (f .0)
+
+fields-all : (p : ℕ) → All Onward (listFields p)
+unfolding listFields curveWord
+fields-all p =
+    all-bind (λ w. startOf w < endOf w) _ _ _
+    (all-after _ _ _ λ w. all-bind (λ _. ltb (startOf w) (endOf w) ≡ true) _ _ _ (unless-all _ 7) λ _ e. ltb-true (startOf w) (endOf w) e)
+    λ w h. all-after _ _ _ λ _. h
 
 value-small : (t : Triple) (f : Fix) → width f ≤ 32 → (bs : List ℕ) → SmallValue t (valueFrom t f bs)
 value-small translation f w bs = number-small f w bs
 value-small scale f w bs = pair-small f w bs
 
-scalar-list-all : (t : Triple) (w off next : ℕ) → All (Of (SizedCurve (SmallValue t))) (scalarList t w off next)
+scalar-list-all : (t : Triple) (w off next : ℕ) → startOf w < endOf w → All (Of (SizedCurve (SmallValue t))) (scalarList t w off next)
 unfolding scalarList
-scalar-list-all t w off next =
-    all-bind (Many (SmallValue t) (valuesOf w)) _ _ _ (list-all (SmallValue t) off _ _ (λ bs _. value-small t (formatOf (widthOf w)) (format-width w) bs) _) λ vs h. sized vs (end-lt w) (few w) h
+scalar-list-all t w off next f =
+    all-bind (Many (SmallValue t) (valuesOf w)) _ _ _ (list-all (SmallValue t) off _ _ (λ bs _. value-small t (formatOf (widthOf w)) (format-width w) bs) _) λ vs h. sized vs (end-lt w) (word-told w off _ f) h
 
 scalar-all : (t : Triple) (b : Bool) (p : ℕ) → All (Of (SizedCurve (SmallValue t))) (scalar t b p)
 unfolding scalar
 scalar-all t true p = all-after _ _ _ λ bs. value-small t fix1-19-12 (lit≤ tt) bs
-scalar-all t false p = all-after _ _ _ λ f. scalar-list-all t (f .0) (f .1) (p + 8)
+scalar-all t false p = all-bind Onward _ _ _ (fields-all p) λ f. scalar-list-all t (f .0) (f .1) (p + 8)
 
 axes-all : (t : Triple) (flags p : ℕ) → All (Of (SizedAxes (SmallValue t))) (axes t flags p)
 unfolding axes
@@ -131,11 +139,11 @@ module _ (pivot basis : ℕ) where
       go true = λ bs _ _. pivot-small _ _ _ _ (small-fixed fix1-3-12 (lit≤ tt) _) (small-fixed fix1-3-12 (lit≤ tt) _)
       go false = λ bs _ _. basis-small _ _ _ _ _
 
-  rotation-list-all : (w off next : ℕ) → All (Of (SizedCurve (Nine Small))) (rotationList pivot basis w off next)
+  rotation-list-all : (w off next : ℕ) → startOf w < endOf w → All (Of (SizedCurve (Nine Small))) (rotationList pivot basis w off next)
   unfolding rotationList
-  rotation-list-all w off next =
+  rotation-list-all w off next f =
       all-bind (λ xs. length xs ≡ valuesOf w) _ _ _ (length-all off _ _ _) λ xs n.
-      all-bind (Many (Nine Small) (length xs)) _ _ _ (all-each _ _ xs (each-of _ reference-all xs)) λ ms h. sized ms (end-lt w) (few w) (h .0 ∙ n, h .1)
+      all-bind (Many (Nine Small) (length xs)) _ _ _ (all-each _ _ xs (each-of _ reference-all xs)) λ ms h. sized ms (end-lt w) (word-told w off _ f) (h .0 ∙ n, h .1)
 
   rotation-all : (b : Bool) (p : ℕ) → All (Of (SizedCurve (Nine Small))) (rotation pivot basis b p)
   unfolding rotation
@@ -143,7 +151,7 @@ module _ (pivot basis : ℕ) where
       all-after _ _ _ λ x.
       all-after _ _ _ λ _.
       all-bind (Nine Small) _ _ _ (reference-all x) λ m h. h
-  rotation-all false p = all-after _ _ _ λ f. rotation-list-all (f .0) (f .1) (p + 8)
+  rotation-all false p = all-bind Onward _ _ _ (fields-all p) λ f. rotation-list-all (f .0) (f .1) (p + 8)
 
   animated-all : (flags p : ℕ) → All Sized (animated pivot basis flags p)
   unfolding animated animatedRotation

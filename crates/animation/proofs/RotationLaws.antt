@@ -29,6 +29,7 @@ use Rattle.curve.specs.Curve.{Curve, constant, samples}
 use Rattle.curve.specs.CurveCode.{listMeans}
 use Rattle.animation.specs.Animation.{startOf, endOf, valuesOf, listOf, Referred, pivotRecord, basisRecord, referred, reference, rotationList, rotation}
 use Rattle.animation.specs.AnimationCode.{codeList, referredMeans, referenceEnd, matrixFor, references, RotationReads}
+use Rattle.animation.proofs.ScalarLaws.{rate-le}
 
 -- the reach after two words side by side
 pub both-words : (p m : ℕ) → max (max m (p + 2)) (p + 2 + 2) ≡ max m (p + 4)
@@ -222,6 +223,7 @@ module _ (t : Tables) (w off next m : ℕ) (s : List ℕ) where
             record {
               room = subst (λ (o : ℕ). o + 2 * l .length ≤ length s) place h;
               ordered = subst (λ (x : SampleList). x .start < x .end) (sym q) f;
+              rated = subst (λ (x : SampleList). x .rate ≤ 3) (sym q) (rate-le w);
               records = λ i i<n. subst (λ (o : ℕ). referenceEnd t (getD (view 2 little (l .length) (drop o s)) i 0) ≤ length s) place (records t s (view 2 little (l .length) (drop off s)) _ _ _ (v .1) i (subst (λ (n : ℕ). i < n) (sym (view-length 2 little (l .length) (drop off s))) i<n));
             },
             le-refl next,

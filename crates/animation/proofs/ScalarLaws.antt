@@ -3,7 +3,7 @@ use Prim.Native.Nat.{ℕ, _+_, _-_, _*_, _/_, _^_, max, _≤_, _<_}
 use mathlib.Core.Bool.{true}
 use mathlib.Core.List.{List}
 use mathlib.Core.Path.{_≡_, refl, sym, ap, subst, _∙_}
-use native.Mathlib.Nat.{mul-le-mul, mod-lt, div-le-self, le-refl}
+use native.Mathlib.Nat.{mul-le-mul, mod-lt, div-le-self, div-add-mod', le-refl}
 use native.Mathlib.Omega.{arith}
 use borrow.Author.Tests.{le-ltb, lt-ltb}
 use lib.ListN.{length, take, drop}
@@ -17,18 +17,25 @@ use Rattle.animation.specs.declared.ScalarRead.{ScalarRead}
 use Rattle.curve.specs.declared.SampleList.{SampleList}
 use Rattle.curve.specs.declared.ScalarCurve.{ScalarCurve}
 use Rattle.curve.specs.declared.Number.{Number}
-use Rattle.curve.specs.Curve.{constant, samples, numberBytes}
+use Rattle.curve.specs.Curve.{FramesTold, constant, samples, numberBytes}
 use Rattle.curve.specs.CurveCode.{formatMeans, listMeans, valuesIn, InsideOf}
 use Rattle.curve.proofs.SampleLaws.{number-take, pair-take}
 use Rattle.animation.specs.Animation.{Triple, translation, scale, Value, numbersOf, valueFrom, startOf, endOf, widthOf, rateOf, valuesOf, listOf, curveWord, listFields, formatOf, valueSize, scalarList, scalar}
 use Rattle.animation.specs.AnimationCode.{codeList, ScalarReads}
 
--- a curve word's end is below 4096, and so is the number of its values
+-- a curve word's end is below 4096
 pub end-lt : (w : ℕ) → endOf w < 65536
 end-lt w = let h = mod-lt (w / 2 ^ 16) (pow-pos 12) in omega arith
 
-pub values-le : (w : ℕ) → valuesOf w ≤ 65535
-values-le w = let h = end-lt w in let l = div-le-self (endOf w - startOf w) (2 ^ rateOf w) in omega arith
+-- its rate has two bits
+pub rate-le : (w : ℕ) → rateOf w ≤ 3
+rate-le w = let h = mod-lt (w / 2 ^ 30) (pow-pos 2) in omega arith
+
+-- the frames of a curve word's list
+pub word-told : (w place size : ℕ) → startOf w < endOf w → FramesTold (listOf w place size) (valuesOf w)
+word-told w place size h =
+    let frames = endOf w - startOf w in
+    record { ordered = omega arith; frames = sym (div-add-mod' frames (2 ^ rateOf w)); below = mod-lt frames (pow-pos (rateOf w)) }
 
 -- ---- the fields of a list
 
@@ -111,7 +118,7 @@ module _ (t : Triple) (w off next m : ℕ) (s : List ℕ) where
     unfolding run bind scalarList
     code-short h = short _ _ _ (subst (λ (x : ℕ). length s < x) code-end h)
 
-    module _ (n : Number) (k : formatMeans n ≡ formatOf (widthOf w)) (far : ℕ) (g : far ≡ max m (off + z * l .length)) (h : off + z * l .length ≤ length s) where
+    module _ (n : Number) (k : formatMeans n ≡ formatOf (widthOf w)) (f : startOf w < endOf w) (far : ℕ) (g : far ≡ max m (off + z * l .length)) (h : off + z * l .length ≤ length s) where
       room : end ≤ length s
       room = subst (λ (x : ℕ). x ≤ length s) code-end h
 
@@ -119,6 +126,7 @@ module _ (t : Triple) (w off next m : ℕ) (s : List ℕ) where
       values-there = (
         record {
           ends = room;
+          framed = record { ordered = omega arith; rated = rate-le w };
           frames = div-le-self (endOf w - startOf w) (2 ^ rateOf w);
           wide = subst (λ (f : Fix). numberBytes f ≤ valueSize t w) (sym k) (number-fits t (formatOf (widthOf w)));
         },

@@ -14,7 +14,7 @@ use Rattle.matrix.specs.declared.Mat3.{Mat3}
 use Rattle.matrix.specs.declared.Mat4.{Mat4}
 use Rattle.matrix.specs.Matrix.{f0, f1, col3, identity3, trs}
 use Rattle.rotation.specs.Rotation.{pivotMat, basisMat}
-use Rattle.curve.specs.Curve.{ListRecord, Curve, none, constant, samples, sampleCount, numberBytes, numberOf, Pair, pairOf, firsts, mix, mixMat, sampleAt}
+use Rattle.curve.specs.Curve.{leftOver, ListRecord, Curve, none, constant, samples, sampleCount, numberBytes, numberOf, Pair, pairOf, firsts, mix, mixMat, sampleAt}
 
 -- the curves of the three axes
 pub record PerAxis (A : Type 0) : Type 0 where
@@ -124,7 +124,7 @@ valuesOf w = (endOf w - startOf w) / 2 ^ rateOf w
 
 -- the list of a curve word, at a place, with values of `size` bytes
 abbrev pub listOf : ℕ → ℕ → ℕ → ListRecord
-listOf w place size = record { start = startOf w; end = endOf w; place = place; size = size }
+listOf w place size = record { start = startOf w; end = endOf w; place = place; size = size; rate = rateOf w; rest = leftOver (endOf w - startOf w) (rateOf w) }
 
 -- the curve word at p: start < end is tested before more is read
 unfoldable pub curveWord : ℕ → Reader ℕ

@@ -28,7 +28,7 @@ use Rattle.curve.specs.declared.ScalarCurve.{ScalarCurve}
 use Rattle.matrix.specs.declared.Mat3.{Mat3}
 use Rattle.curve.specs.Curve.{Curve, none, constant, samples}
 use Rattle.curve.specs.CurveCode.{listMeans, curveIn, scalarCurve, Inside, InsideOf}
-use Rattle.animation.specs.Animation.{PerAxis, Axes, Object, Triple, translation, scale, Value, numbersOf, valueFrom, startOf, endOf, valuesOf, Referred, pivotRecord, basisRecord, referred, object, axesSamples, objectSamples, Animation, animation}
+use Rattle.animation.specs.Animation.{PerAxis, Axes, Object, Triple, translation, scale, Value, numbersOf, valueFrom, startOf, endOf, rateOf, valuesOf, Referred, pivotRecord, basisRecord, referred, object, axesSamples, objectSamples, Animation, animation}
 
 abbrev pub tripleMeans : CodeTriple → Triple
 tripleMeans Translation = translation
@@ -46,7 +46,7 @@ Forward (FieldsRead.Refused n) = Unit {0}
 
 -- the list of a curve word, as the code has it
 abbrev pub codeList : ℕ → ℕ → ℕ → SampleList
-codeList w place size = record { start = startOf w; end = endOf w; place = place; length = valuesOf w; size = size }
+codeList w place size = record { start = startOf w; end = endOf w; place = place; length = valuesOf w; size = size; rate = rateOf w }
 
 -- a curve of the triple, and where reading stands after it
 abbrev pub scalarMeans : (t : Triple) → List ℕ → ScalarRead → Outcome (Curve (Value t) × ℕ)
@@ -124,6 +124,7 @@ rotationCurve t s (RotationCurve.Samples l) = samples (listMeans l) (map (matrix
 pub record InsideReferences (t : Tables) (s : List ℕ) (l : SampleList) : Type 0 where
   pub room : l .place + 2 * l .length ≤ length s
   pub ordered : l .start < l .end
+  pub rated : l .rate ≤ 3
   pub records : (i : ℕ) → i < l .length → referenceEnd t (getD (references s l) i 0) ≤ length s
 
 abbrev pub InsideRotation : Tables → List ℕ → RotationCurve → Type 0

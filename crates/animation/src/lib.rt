@@ -110,7 +110,7 @@ pub enum AnimationRead {
 }
 
 // How many numbers a value of the triple has.
-fn numbers(which: Triple) -> u16
+fn numbers(which: Triple) -> u8
     ensures { λ r. ⌜ (r ≡ numbersOf (tripleMeans which)) × (r ≤ 2) ⌝ }
 {
     match which {
@@ -158,19 +158,21 @@ fn read_fields(s: &[u8], p: usize, reach: usize) -> FieldsRead
 }
 
 // The list of a curve word.
-fn sample_list(w: u32, place: usize, size: u16) -> SampleList
+fn sample_list(w: u32, place: usize, size: u8) -> SampleList
     requires { ⌜ startOf w < endOf w ⌝ }
     ensures { λ r. ⌜ r ≡ codeList w place size ⌝ }
 {
     let start = bits32(w, 0, 16) as u16;
     let end = bits32(w, 16, 28) as u16;
-    let length = (end - start) >> bits32(w, 30, 32);
+    let rate = bits32(w, 30, 32) as u8;
+    let length = (end - start) >> rate;
     SampleList {
         start,
         end,
         place,
         length,
         size,
+        rate,
     }
 }
 
@@ -185,7 +187,7 @@ fn number_of(w: u32) -> Number
 }
 
 // The bytes of a value of a curve word's list.
-fn value_size(which: Triple, w: u32) -> u16
+fn value_size(which: Triple, w: u32) -> u8
     ensures { λ r. ⌜ r ≡ valueSize (tripleMeans which) w ⌝ }
 {
     if bits32(w, 28, 30) == 0 {

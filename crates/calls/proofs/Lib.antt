@@ -2,4 +2,5 @@ pub mod Demand3
 pub mod Finding
 pub mod Samples
 pub mod ScaleValues
+pub mod FramesTold
 pub mod CallsLaws

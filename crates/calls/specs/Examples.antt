@@ -14,7 +14,7 @@ use Rattle.curve.specs.Curve.{Pair, always, listed}
 use Rattle.animation.specs.Animation.{translation, scale}
 use Rattle.nitro.specs.Container.{jnt, srt, pat, stampOf, EntryRecord}
 use Rattle.gltf.specs.Curve.{noSpan, span}
-use Rattle.calls.specs.Calls.{check, find, on, ofObject, matrix, matrixBytes, curve, scaleValue, resampled, ofPattern, chosen, ofMaterial, channelCurve, answer}
+use Rattle.calls.specs.Calls.{check, find, on, ofObject, matrix, matrixBytes, curve, scaleValue, rotationCurve, resampled, ofPattern, chosen, ofMaterial, channelCurve, answer}
 use Rattle.calls.specs.Evaluate.{evaluate}
 use Rattle.calls.specs.Pinned.{walk, walkName}
 
@@ -78,7 +78,7 @@ scrollRecord = record { name = zeros 16; frames = 0; count = 1; samples = 0 }
 
 -- the place counts from the section's start; a call that takes another stamp is refused before anything else is looked at
 pub its-channel :
-    (answer (on srt 0 (ofMaterial 0 (channelCurve 3))) (scroll 84) ≡ accepted 132 (listed (record { start = 0; end = 0; place = 132; size = 2 }) 0))
+    (answer (on srt 0 (ofMaterial 0 (channelCurve 3))) (scroll 84) ≡ accepted 132 (listed (record { start = 0; end = 0; place = 132; size = 2; rate = 0; rest = 0 }) 0))
     × (answer (on srt 0 (ofMaterial 0 (channelCurve 5))) (scroll 84) ≡ refused 9)
     × (answer (on jnt 0 (ofObject 0 (resampled translation [] 0))) (take 4 (scroll 84)) ≡ refused 1)
 unfolding evaluate
@@ -132,7 +132,7 @@ still =
 
 -- the entry is whole, and there is nothing to resample: 10 comes before 11
 pub nothing-to-sample :
-    (answer (on jnt 0 (ofObject 0 (curve translation 0))) still ≡ accepted 90 (listed (record { start = 3; end = 4; place = 90; size = 4 }) 0))
+    (answer (on jnt 0 (ofObject 0 (curve translation 0))) still ≡ accepted 90 (listed (record { start = 3; end = 4; place = 90; size = 4; rate = 1; rest = 1 }) 0))
     × (answer (on jnt 0 (ofObject 0 (resampled translation [] 1))) still ≡ refused 10)
     × (answer (on jnt 1 (ofObject 0 (resampled translation [] 1))) still ≡ refused 9)
 unfolding evaluate
@@ -285,3 +285,30 @@ last-of-a-crowd = (refl, refl, refl)
 pub offsets-first : answer (check 0) (take 2067 (crowd 1000)) ≡ refused 2
 unfolding evaluate
 offsets-first = refl
+
+-- ---- 13. The frames that a rate leaves over: three lists of eleven frames
+
+-- at rate 1 on the translation's x, at rate 2 in the rotation, at rate 3 on the scale's x; both references lead to the pivot data at 88
+abbrev eleven : List ℕ
+eleven =
+    stampOf jnt ++ u32 0 ++ block 1 4 (u32 48) (zeros 16)
+    ++ (0x4A ∷ 0x00 ∷ 0x41 ∷ 0x43 ∷ []) ++ u16 12 ++ u16 1 ++ zeros 4 ++ u32 88 ++ u32 0 ++ u16 22
+    ++ u16 0x3030 ++ u16 0 ++ u32 (11 * 0x1_0000 + 0x6000_0000) ++ u32 74 ++ zeros 8
+    ++ u32 (1 + 12 * 0x1_0000 + 0x8000_0000) ++ u32 84 ++ u32 (11 * 0x1_0000 + 0xC000_0000) ++ u32 94 ++ zeros 16
+    ++ zeros 10 ++ u16 0x8000 ++ u16 0x8000 ++ zeros 6 ++ zeros 8
+
+-- an SRT0 track whose u channel is a list of three frames
+abbrev three : List ℕ
+three =
+    stampOf srt ++ u32 0 ++ block 1 4 (u32 48) (zeros 16)
+    ++ zeros 4 ++ u16 3 ++ u16 0
+    ++ block 1 40 (zeros 24 ++ u16 3 ++ u8 0 ++ u8 16 ++ u32 84 ++ zeros 8) (zeros 16) ++ zeros 6
+
+-- five values and one frame, two and three, one and three; the widths, 2 on the translation's x and else 0, tell nothing of it, nor do SRT0's flags
+pub its-rests :
+    (answer (on jnt 0 (ofObject 0 (curve translation 0))) eleven ≡ accepted 150 (listed (record { start = 0; end = 11; place = 122; size = 2; rate = 1; rest = 1 }) 5))
+    × (answer (on jnt 0 (ofObject 0 rotationCurve)) eleven ≡ accepted 150 (listed (record { start = 1; end = 12; place = 132; size = 2; rate = 2; rest = 3 }) 2))
+    × (answer (on jnt 0 (ofObject 0 (curve scale 0))) eleven ≡ accepted 150 (listed (record { start = 0; end = 11; place = 142; size = 8; rate = 3; rest = 3 }) 1))
+    × (answer (on srt 0 (ofMaterial 0 (channelCurve 3))) three ≡ accepted 138 (listed (record { start = 0; end = 3; place = 132; size = 2; rate = 0; rest = 0 }) 3))
+unfolding evaluate
+its-rests = (refl, refl, refl, refl)

@@ -3,6 +3,7 @@ pub mod Demand3
 pub mod Finding
 pub mod Samples
 pub mod ScaleValues
+pub mod FramesTold
 pub mod Evaluate
 pub mod Pinned
 pub mod Examples

@@ -41,9 +41,9 @@ unsorted = key 5 0 ∷ key 2 1 ∷ key 9 2 ∷ []
 abbrev pub keyAt : ℕ → ℕ
 keyAt frame = choice unsorted (key 0 0) frame .texture
 
--- start 0, end 11, five values
+-- start 0, end 11, five values: rate 1 leaves one frame over
 abbrev pub fiveValues : Curve Float
-fiveValues = samples (record { start = 0; end = 11; place = 0; size = 4 }) (f0 ∷ f0 ∷ f0 ∷ f0 ∷ f0 ∷ [])
+fiveValues = samples (record { start = 0; end = 11; place = 0; size = 4; rate = 1; rest = 1 }) (f0 ∷ f0 ∷ f0 ∷ f0 ∷ f0 ∷ [])
 
 -- negsuc n is -(n + 1)
 pub record Pinned : Type 0 where

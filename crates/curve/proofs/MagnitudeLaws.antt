@@ -2,12 +2,14 @@
 use Prim.Native.Nat.{ℕ, _-_, _^_, _≤_, _<_}
 use mathlib.Core.Bool.{Bool, true, false, cond}
 use mathlib.Core.List.{List, [], _∷_, map}
-use mathlib.Core.Path.{_≡_, refl}
+use mathlib.Core.Path.{_≡_, refl, sym, subst}
+use native.Mathlib.Nat.{mul-le-mul-left}
 use native.Mathlib.Omega.{arith}
 use borrow.Author.Tests.{leb-false}
 use lib.Dec.{leb, lit≤, lit<}
 use lib.ListN.{length, length-map, getD}
 use lib.Ieee.{Float}
+use lib.Pow.{pow-pos}
 use Rattle.util.specs.Fixed.{Fix, width}
 use Rattle.util.proofs.All.{Each, each-getD, Many}
 use Rattle.util.proofs.WithinLaws.{within-whole, within-le, upto-within}
@@ -16,7 +18,7 @@ use Rattle.matrix.specs.declared.Col3.{Col3}
 use Rattle.matrix.specs.declared.Mat3.{Mat3}
 use Rattle.matrix.specs.Matrix.{identity3}
 use Rattle.matrix.proofs.MagnitudeLaws.{Three, Nine, three}
-use Rattle.curve.specs.Curve.{ListRecord, Curve, none, constant, samples, sampleCount, numberOf, Pair, pairOf, firsts, floor, ceil, ofWhole, index, mix, mixCol, mixMat, between, sampleList, sampleAt}
+use Rattle.curve.specs.Curve.{ListRecord, FramesTold, Curve, none, constant, samples, sampleCount, numberOf, Pair, pairOf, firsts, floor, ceil, ofWhole, index, mix, mixCol, mixMat, between, sampleList, sampleAt, RecordTells, recorded}
 use Rattle.curve.proofs.IndexLaws.{index-upto, floor-le}
 
 -- g is the fraction, and its bound is crude
@@ -31,11 +33,15 @@ pub mix-mat-small : (lo hi : Mat3) (g : Float) → Nine Small lo → Nine Small 
 unfolding mixMat
 mix-mat-small lo hi g p q z = record { c0 = mix-col _ _ g (p .c0) (q .c0) z; c1 = mix-col _ _ g (p .c1) (q .c1) z; c2 = mix-col _ _ g (p .c2) (q .c2) z }
 
--- a list of a curve: its end and its length have 16 bits, and P holds of each value
+-- a list of a curve: its end has 16 bits, its record tells its frames, and P holds of each value
 pub record SizedList {X : Type 0} (P : X → Type 0) (l : ListRecord) (vs : List X) : Type 0 where
   pub ends : l .end < 65536
-  pub few : length vs < 65536
+  pub told : FramesTold l (length vs)
   pub values : Each P vs
+
+-- it has no more values than frames
+list-few : {X : Type 0} (P : X → Type 0) (l : ListRecord) (vs : List X) → SizedList P l vs → length vs < 65536
+list-few P l vs h = let t = h .told in let n = mul-le-mul-left (length vs) (pow-pos (l .rate)) in omega (arith, h .ends, t .frames)
 
 abbrev pub SizedCurve : {X : Type 0} → (X → Type 0) → Curve X → Type 0
 SizedCurve P none = Unit {0}
@@ -50,7 +56,7 @@ SmallPair v = Small (v .first) × Small (v .second)
 pub firsts-sized : (c : Curve Pair) → SizedCurve SmallPair c → SizedCurve Small (firsts c)
 firsts-sized none h = tt
 firsts-sized (constant v) h = h .0
-firsts-sized (samples l vs) h = record { ends = h .ends; few = rw (length-map vs (λ (v : Pair). v .first)) (h .few); values = go vs (h .values) }
+firsts-sized (samples l vs) h = record { ends = h .ends; told = rw (length-map vs (λ (v : Pair). v .first)) (h .told); values = go vs (h .values) }
   where
     go : (vs : List Pair) → Each SmallPair vs → Each Small (map (λ v. v .first) vs)
     go [] h = tt
@@ -59,7 +65,7 @@ firsts-sized (samples l vs) h = record { ends = h .ends; few = rw (length-map vs
 pub count-few : {X : Type 0} (P : X → Type 0) (c : Curve X) → SizedCurve P c → sampleCount c < 65536
 count-few P none h = lit< tt
 count-few P (constant v) h = lit< tt
-count-few P (samples l vs) h = h .few
+count-few P (samples l vs) h = list-few P l vs h
 
 -- where P holds of the values, and Q of what is mixed of them, Q holds of each sample
 module _ {X : Type 0} (P Q : X → Type 0) (mixed : X → X → Float → X) (kept : (v : X) → P v → Q v)
@@ -80,6 +86,7 @@ module _ {X : Type 0} (P Q : X → Type 0) (mixed : X → X → Float → X) (ke
       go false e false f =
           let a : r .start < frame = leb-false frame (r .start) e in
           let b : frame < r .end - 1 = leb-false (r .end - 1) frame f in
+          let n = list-few P r vs h in
           let u = index-upto (r .start) (r .end) frame (length vs) a (omega arith) (h .ends) N (omega arith) in
           let l : floor i ≤ length vs - 1 = floor-le i (length vs - 1) u in
           let v : Below 16 i = record { within = within-le i (length vs - 1) (2 ^ 16) (omega arith) (upto-within i (length vs - 1) u) } in
@@ -111,5 +118,13 @@ pub pair-small : (f : Fix) → width f ≤ 32 → (bs : List ℕ) → SmallPair 
 pair-small f w bs = (small-fixed f w _, small-fixed f w _)
 
 -- a list of n values
-pub sized : {X : Type 0} {P : X → Type 0} {l : ListRecord} {n : ℕ} (vs : List X) → l .end < 65536 → n < 65536 → Many P n vs → SizedList P l vs
-sized vs e b h = let q = h .0 in record { ends = e; few = omega arith; values = h .1 }
+pub sized : {X : Type 0} {P : X → Type 0} {l : ListRecord} {n : ℕ} (vs : List X) → l .end < 65536 → FramesTold l n → Many P n vs → SizedList P l vs
+sized {l} vs e t h = record { ends = e; told = subst (FramesTold l) (sym (h .0)) t; values = h .1 }
+
+-- ---- the record of a curve
+
+pub recorded-tells : {X : Type 0} (P : X → Type 0) (entry : ℕ) (c : Curve X) → SizedCurve P c → RecordTells (recorded entry c)
+unfolding recorded
+recorded-tells P entry none h = tt
+recorded-tells P entry (constant v) h = tt
+recorded-tells P entry (samples l vs) h = let t = h .told in record { ordered = t .ordered; frames = t .frames; below = t .below }

@@ -15,10 +15,11 @@ use Rattle.util.proofs.Cut.{take-drop-take}
 use Rattle.util.proofs.ViewLaws.{view-length, view-there, view-map}
 use Rattle.curve.specs.declared.Number.{Number}
 use Rattle.curve.specs.declared.SampleList.{SampleList}
+use Rattle.curve.specs.declared.ListRecord.{ListRecord as CodeRecord}
 use Rattle.curve.specs.declared.Spot.{Spot}
 use Rattle.curve.specs.declared.ScalarCurve.{ScalarCurve}
 use Rattle.curve.specs.Curve.{ListRecord, countedFrom, Curve, samples, sampleCount, stored, numberBytes, numberOf, Pair, pairOf, firsts, pairAt, index, between, sampleList, sampleAt, Recorded, listed, recorded}
-use Rattle.curve.specs.CurveCode.{spotAt, formatMeans, listMeans, valuesIn, curveIn, scalarCurve, pairCurve, InsideList, Inside, InsideOf}
+use Rattle.curve.specs.CurveCode.{spotAt, formatMeans, listMeans, listRecordMeans, valuesIn, curveIn, scalarCurve, pairCurve, InsideList, Inside, InsideOf}
 
 -- ---- the values of a list that stands in a section
 
@@ -148,7 +149,7 @@ module _ (s : List ℕ) (c known : ScalarCurve) (q : c ≡ known) (i : ℕ) wher
 
 -- ---- the record of a list
 
-pub list-recorded : {A : Type 0} (r l : SampleList) (entry : ℕ) (vs : List A) → listMeans r ≡ countedFrom entry (listMeans l) → r .length ≡ l .length → length vs ≡ l .length
-    → _≡_ {A = Recorded A} (listed (listMeans r) (r .length)) (recorded entry (samples (listMeans l) vs))
+pub list-recorded : {A : Type 0} (r : CodeRecord) (l : SampleList) (entry : ℕ) (vs : List A) → listRecordMeans r ≡ countedFrom entry (listMeans l) → r .list .length ≡ l .length → length vs ≡ l .length
+    → _≡_ {A = Recorded A} (listed (listRecordMeans r) (r .list .length)) (recorded entry (samples (listMeans l) vs))
 unfolding recorded
-list-recorded r l entry vs e p count = ap (λ (x : ListRecord). listed x (r .length)) e ∙ ap (listed (countedFrom entry (listMeans l))) (p ∙ sym count)
+list-recorded r l entry vs e p count = ap (λ (x : ListRecord). listed x (r .list .length)) e ∙ ap (listed (countedFrom entry (listMeans l))) (p ∙ sym count)

@@ -1,7 +1,8 @@
 -- Curves, and what they give at a frame. Assumes nothing.
-use Prim.Native.Nat.{ℕ, _+_, _-_, _/_, _%_}
+use Prim.Native.Nat.{ℕ, _+_, _-_, _*_, _/_, _%_, _^_, _≤_, _<_}
 use mathlib.Core.Bool.{cond}
 use mathlib.Core.List.{List, [], _∷_, map}
+use mathlib.Core.Path.{_≡_}
 use lib.Dec.{leb, ltb, eqb}
 use lib.IntN.{pos}
 use lib.ListN.{length, drop, getD}
@@ -14,16 +15,28 @@ use Rattle.util.specs.Reader.{Verdict, answered, given}
 use Rattle.util.specs.Fixed.{Fix, width, fixed}
 use Rattle.matrix.specs.Matrix.{f0, f1, col3}
 
--- of a list: its start and end frame, where it stands, and the bytes per value
+-- the frames that a rate leaves over of so many
+abbrev pub leftOver : (frames rate : ℕ) → ℕ
+leftOver frames rate = frames % 2 ^ rate
+
+-- of a list: its start and end frame, where it stands, the bytes per value, the stored rate, and the rest: the frames that the rate leaves over
 pub record ListRecord : Type 0 where
   pub start : ℕ
   pub end : ℕ
   pub place : ℕ
   pub size : ℕ
+  pub rate : ℕ
+  pub rest : ℕ
+
+-- its frames are 2 to the rate for each of its n values, and the rest, which is too short for one more
+pub record FramesTold (l : ListRecord) (n : ℕ) : Type 0 where
+  pub ordered : l .start ≤ l .end
+  pub frames : l .end - l .start ≡ n * 2 ^ l .rate + l .rest
+  pub below : l .rest < 2 ^ l .rate
 
 -- the same list, its place counted from b bytes before
 abbrev pub countedFrom : ℕ → ListRecord → ListRecord
-countedFrom b l = record { start = l .start; end = l .end; place = b + l .place; size = l .size }
+countedFrom b l = record { start = l .start; end = l .end; place = b + l .place; size = l .size; rate = l .rate; rest = l .rest }
 
 -- none, a constant, or a list with its values
 pub data Curve (A : Type 0) : Type 0 where
@@ -132,6 +145,12 @@ pub data Recorded (A : Type 0) : Type 0 where
   noCurve : Recorded A
   always : A → Recorded A
   listed : ListRecord → (length : ℕ) → Recorded A
+
+-- where it tells of a list, it tells the list's frames
+abbrev pub RecordTells : {A : Type 0} → Recorded A → Type 0
+RecordTells noCurve = Unit {0}
+RecordTells (always v) = Unit {0}
+RecordTells (listed l n) = FramesTold l n
 
 module _ {A : Type 0} where
   -- a curve's place counts from its entry, a record's from the section's start

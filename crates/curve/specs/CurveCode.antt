@@ -10,13 +10,14 @@ use Rattle.curve.specs.declared.Spot.{Spot}
 use Rattle.curve.specs.declared.Number.{Number}
 use Rattle.curve.specs.declared.Number.the-variants.{Fix1_19_12, Fix1_3_12, Fix1_10_5}
 use Rattle.curve.specs.declared.SampleList.{SampleList}
+use Rattle.curve.specs.declared.ListRecord.{ListRecord as CodeRecord}
 use Rattle.curve.specs.declared.ScalarCurve.{ScalarCurve}
 use Rattle.curve.specs.declared.ScalarCurve.the-variants.{None, Constant, Samples}
 use Rattle.curve.specs.declared.ScalarRecord.{ScalarRecord}
 use Rattle.curve.specs.declared.Pair.{Pair as CodePair}
 use Rattle.curve.specs.declared.PairRecord.{PairRecord}
 use Rattle.curve.specs.declared.PairAnswer.{PairAnswer}
-use Rattle.curve.specs.Curve.{ListRecord, Curve, none, constant, samples, numberBytes, numberOf, Pair, pairOf, floor, ceil, ofWhole, Recorded, noCurve, always, listed}
+use Rattle.curve.specs.Curve.{leftOver, ListRecord, Curve, none, constant, samples, numberBytes, numberOf, Pair, pairOf, floor, ceil, ofWhole, Recorded, noCurve, always, listed}
 
 -- the places around i
 abbrev pub spotAt : Float → Spot
@@ -27,8 +28,17 @@ formatMeans Fix1_19_12 = fix1-19-12
 formatMeans Fix1_3_12 = fix1-3-12
 formatMeans Fix1_10_5 = fix1-10-5
 
+abbrev pub listRecordMeans : CodeRecord → ListRecord
+listRecordMeans r = let l = r .list in record { start = l .start; end = l .end; place = l .place; size = l .size; rate = l .rate; rest = r .rest }
+
+-- of a list the code keeps the rate, and the rest follows
 abbrev pub listMeans : SampleList → ListRecord
-listMeans l = record { start = l .start; end = l .end; place = l .place; size = l .size }
+listMeans l = listRecordMeans (record { list = l; rest = leftOver (l .end - l .start) (l .rate) })
+
+-- a list whose frames run forward, at a rate of two bits
+pub record Framed (l : SampleList) : Type 0 where
+  pub ordered : l .start ≤ l .end
+  pub rated : l .rate ≤ 3
 
 -- `value` gives a value of its format and its bytes
 module _ {A : Type 0} (value : Fix → List ℕ → A) where
@@ -53,6 +63,7 @@ pairCurve s c = curveIn pairOf s c
 -- a list whose values stand in the section
 pub record InsideList (s : List ℕ) (l : SampleList) (number : Number) : Type 0 where
   pub ends : l .place + l .size * l .length ≤ length s
+  pub framed : Framed l
   pub frames : l .length ≤ l .end - l .start
   pub wide : numberBytes (formatMeans number) ≤ l .size
 
@@ -71,7 +82,7 @@ InsideOf n s (Samples l number) = InsideList s l number × (numberBytes (formatM
 abbrev pub recordMeans : ScalarRecord → Recorded Float
 recordMeans ScalarRecord.None = noCurve
 recordMeans (ScalarRecord.Constant v) = always v
-recordMeans (ScalarRecord.List l) = listed (listMeans l) (l .length)
+recordMeans (ScalarRecord.List r) = listed (listRecordMeans r) (r .list .length)
 
 abbrev pub pairMeans : CodePair → Pair
 pairMeans v = record { first = v .first; second = v .second }
@@ -79,7 +90,7 @@ pairMeans v = record { first = v .first; second = v .second }
 abbrev pub pairRecordMeans : PairRecord → Recorded Pair
 pairRecordMeans PairRecord.None = noCurve
 pairRecordMeans (PairRecord.Constant v) = always (pairMeans v)
-pairRecordMeans (PairRecord.List l) = listed (listMeans l) (l .length)
+pairRecordMeans (PairRecord.List r) = listed (listRecordMeans r) (r .list .length)
 
 -- one value, or the number
 abbrev pub pairAnswerMeans : PairAnswer → Verdict Pair

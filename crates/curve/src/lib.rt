@@ -8,13 +8,13 @@ use util::view::word16;
 use util::view::word32;
 ghost use mathlib.Core.List.{List};
 ghost use mathlib.Core.Path.{_≡_};
-ghost use Prim.Native.Nat.{ℕ, _+_, _*_, _<_, _≤_};
+ghost use Prim.Native.Nat.{ℕ, _+_, _*_, _^_, _<_, _≤_};
 ghost use lib.Ieee.{Float};
 ghost use lib.ListN.{length, drop};
 ghost use Rattle.util.specs.Fixed.{fix1-19-12};
 ghost use Rattle.util.specs.Within.{Under};
 ghost use Rattle.curve.specs.Curve.{sampleCount, countedFrom, index, mix, mixCol, mixMat, sampleAt, numberBytes, numberOf, pairOf, pairAt, recorded};
-ghost use Rattle.curve.specs.CurveCode.{spotAt, formatMeans, listMeans, scalarCurve, pairCurve, InsideList, Inside, InsideOf, recordMeans, pairMeans, pairRecordMeans, pairAnswerMeans};
+ghost use Rattle.curve.specs.CurveCode.{spotAt, formatMeans, listMeans, listRecordMeans, Framed, scalarCurve, pairCurve, InsideList, Inside, InsideOf, recordMeans, pairMeans, pairRecordMeans, pairAnswerMeans};
 ghost use Rattle.curve.specs.Curve as spec;
 
 // How the numbers of a value are stored.
@@ -24,14 +24,20 @@ pub enum Number {
     Fix1_10_5,
 }
 
-// A list of values: its frames, where it stands, how many values it has, and the bytes of each. Its record has the same fields; there the
-// place counts from the section's start.
+// A list of values: its frames, where it stands, how many values it has, the bytes of each, and the stored rate.
 pub struct SampleList {
     pub place: usize,
     pub length: u16,
-    pub size: u16,
     pub start: u16,
     pub end: u16,
+    pub size: u8,
+    pub rate: u8,
+}
+
+// The record of a list: there its place counts from the section's start. The rest is the frames that the rate leaves over.
+pub struct ListRecord {
+    pub list: SampleList,
+    pub rest: u16,
 }
 
 // A constant is where its value stands.
@@ -45,7 +51,7 @@ pub enum ScalarCurve {
 pub enum ScalarRecord {
     None,
     Constant(f64),
-    List(SampleList),
+    List(ListRecord),
 }
 
 // One value of a scale. The first number is the one that is sampled.
@@ -58,7 +64,7 @@ pub struct Pair {
 pub enum PairRecord {
     None,
     Constant(Pair),
-    List(SampleList),
+    List(ListRecord),
 }
 
 pub enum PairAnswer {
@@ -150,7 +156,7 @@ pub fn lerp_mat(lo: Mat3, hi: Mat3, g: f64) -> Mat3
 }
 
 // The number of value k of a list that stands at `place`.
-fn value(s: &[u8], place: usize, size: u16, number: Number, k: usize) -> f64
+fn value(s: &[u8], place: usize, size: u8, number: Number, k: usize) -> f64
     requires { ⌜ place + size * k + numberBytes (formatMeans number) ≤ length (now s) ⌝ }
     ensures { λ r. ⌜ r ≡ numberOf (formatMeans number) (drop (place + size * k) (now (s .entry))) ⌝ }
 {
@@ -215,14 +221,23 @@ pub fn sample_count(curve: ScalarCurve) -> u16
     }
 }
 
-// A list's record, in an entry that stands at `entry`.
-pub fn record_list(l: SampleList, entry: usize) -> SampleList
-    requires { ⌜ entry + l .place < 18446744073709551616 ⌝ }
-    ensures { λ r. ⌜ (listMeans r ≡ countedFrom entry (listMeans l)) × (r .length ≡ l .length) ⌝ }
+// 2 to a rate of two bits.
+fn power(rate: u8) -> u16
+    requires { ⌜ rate ≤ 3 ⌝ }
+    ensures { λ r. ⌜ r ≡ 2 ^ rate ⌝ }
 {
-    let mut r = l;
-    r.place = entry + l.place;
-    r
+    1 << rate
+}
+
+// A list's record, in an entry that stands at `entry`.
+pub fn record_list(l: SampleList, entry: usize) -> ListRecord
+    requires { ⌜ Framed l × (entry + l .place < 18446744073709551616) ⌝ }
+    ensures { λ r. ⌜ (listRecordMeans r ≡ countedFrom entry (listMeans l)) × (r .list .length ≡ l .length) ⌝ }
+{
+    let mut list = l;
+    list.place = entry + l.place;
+    let rest = (l.end - l.start) % power(l.rate);
+    ListRecord { list, rest }
 }
 
 // A curve's record, in an entry that stands at `entry`: the slice is the section from there on.
@@ -249,7 +264,7 @@ fn number_bytes(number: Number) -> usize
 }
 
 // Value k of a list of pairs that stands at `place`: its second number is the first of a list that stands a number further on.
-fn read_pair(s: &[u8], place: usize, size: u16, number: Number, k: usize) -> Pair
+fn read_pair(s: &[u8], place: usize, size: u8, number: Number, k: usize) -> Pair
     requires { ⌜ place + size * k + numberBytes (formatMeans number) * 2 ≤ length (now s) ⌝ }
     ensures { λ r. ⌜ pairMeans r ≡ pairOf (formatMeans number) (drop (place + size * k) (now (s .entry))) ⌝ }
 {

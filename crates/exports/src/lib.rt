@@ -8,6 +8,7 @@ use motion::check;
 use motion::find;
 use nitro::entry::EntryCheck;
 use text::ROOM;
+use words::CURVE_WORDS;
 use words::put_choice;
 use words::put_curve;
 use words::put_found;
@@ -89,7 +90,7 @@ pub extern "C" fn motion_translation_curve(
     entry: usize,
     object: usize,
     axis: usize,
-    out: &mut [u64; 6],
+    out: &mut [u64; CURVE_WORDS],
     value: &mut [f64; 1],
 ) -> u32
     ensures { λ r. ⌜ Writes curveWords (told (answer (on jnt entry (ofObject object (curve translation axis))) (now (s .entry)))) r (now (out .entry)) (now (out .exit)) × Writes (curveFloats oneFloat) (told (answer (on jnt entry (ofObject object (curve translation axis))) (now (s .entry)))) r (now (value .entry)) (now (value .exit)) ⌝ }
@@ -103,7 +104,7 @@ pub extern "C" fn motion_rotation_curve(
     s: &[u8],
     entry: usize,
     object: usize,
-    out: &mut [u64; 6],
+    out: &mut [u64; CURVE_WORDS],
     value: &mut [f64; 9],
 ) -> u32
     ensures { λ r. ⌜ Writes curveWords (told (answer (on jnt entry (ofObject object rotationCurve)) (now (s .entry)))) r (now (out .entry)) (now (out .exit)) × Writes (curveFloats nineFloats) (told (answer (on jnt entry (ofObject object rotationCurve)) (now (s .entry)))) r (now (value .entry)) (now (value .exit)) ⌝ }
@@ -118,7 +119,7 @@ pub extern "C" fn motion_scale_curve(
     entry: usize,
     object: usize,
     axis: usize,
-    out: &mut [u64; 6],
+    out: &mut [u64; CURVE_WORDS],
     value: &mut [f64; 2],
 ) -> u32
     ensures { λ r. ⌜ Writes curveWords (told (answer (on jnt entry (ofObject object (curve scale axis))) (now (s .entry)))) r (now (out .entry)) (now (out .exit)) × Writes (curveFloats twoFloats) (told (answer (on jnt entry (ofObject object (curve scale axis))) (now (s .entry)))) r (now (value .entry)) (now (value .exit)) ⌝ }
@@ -148,7 +149,7 @@ pub extern "C" fn motion_channel_curve(
     entry: usize,
     track: usize,
     channel: usize,
-    out: &mut [u64; 6],
+    out: &mut [u64; CURVE_WORDS],
     value: &mut [f64; 1],
 ) -> u32
     ensures { λ r. ⌜ Writes curveWords (told (answer (on srt entry (ofMaterial track (channelCurve channel))) (now (s .entry)))) r (now (out .entry)) (now (out .exit)) × Writes (curveFloats oneFloat) (told (answer (on srt entry (ofMaterial track (channelCurve channel))) (now (s .entry)))) r (now (value .entry)) (now (value .exit)) ⌝ }

@@ -4,7 +4,7 @@ use Prim.Native.Nat.{ℕ, _*_, _≤_, _<_}
 use mathlib.Core.List.{List}
 use mathlib.Core.Path.{_≡_}
 use native.Mathlib.Omega.{arith}
-use lib.Dec.{lit≤}
+use lib.Dec.{lit≤, lit<}
 use lib.ListN.{length, take, drop, getD}
 use lib.Ieee.{Float}
 use Rattle.util.specs.Fixed.{fix1-10-5}
@@ -48,7 +48,7 @@ uv-finite channels h frame = below-mat (translation-below (at 3) (at 4) below-ze
 
 channel-list-all : (frames off : ℕ) → frames < 65536 → All (SizedCurve Small) (channelList frames off)
 unfolding channelList
-channel-list-all frames off l = all-bind (Many Small frames) _ _ _ (list-all Small off _ _ (λ bs _. number-small fix1-10-5 (lit≤ tt) bs) _) λ vs h. sized vs l l h
+channel-list-all frames off l = all-bind (Many Small frames) _ _ _ (list-all Small off _ _ (λ bs _. number-small fix1-10-5 (lit≤ tt) bs) _) λ vs h. sized vs l (record { ordered = omega arith; frames = omega arith; below = lit< tt }) h
 
 channel-all : (track : List ℕ) → Bytes track → (n : ℕ) → All (SizedCurve Small) (channel track n)
 unfolding channel

@@ -1,5 +1,5 @@
 -- The runs of an SRT0 entry's readers, by what the section holds. Assumes nothing.
-use Prim.Native.Nat.{ℕ, _+_, _*_, _≤_, _<_, max}
+use Prim.Native.Nat.{ℕ, _+_, _-_, _*_, _%_, _≤_, _<_, max}
 use mathlib.Core.Bool.{Bool, true, false, _&&_, _||_}
 use mathlib.Core.List.{List, []}
 use mathlib.Core.Logic.{⊎-elim}
@@ -28,6 +28,7 @@ use Rattle.info_block.specs.declared.InfoBlock.{InfoBlock}
 use Rattle.info_block.specs.declared.BlockRead.{BlockRead}
 use Rattle.material_animation.specs.declared.MaterialAnimation.{MaterialAnimation as Known}
 use Rattle.curve.specs.Curve.{Curve, none, samples, sampleCount, mix, sampleAt, numberOf}
+use Rattle.curve.specs.CurveCode.{listMeans}
 use Rattle.info_block.specs.InfoBlock.{Block, infoBlock}
 use Rattle.info_block.specs.InfoBlockCode.{blockAt, BlockReads}
 use Rattle.material_animation.specs.MaterialAnimation.{MaterialAnimation, trackSamples, carries, channelList, channel, channelNumbers, channels, materialAnimation, uvMatrixAt}
@@ -90,10 +91,13 @@ module _ (s : List ℕ) (track n : ℕ) (h : n < 5) where
       unfolding channel channelList run bind
       channel-short l = rw (carried, datum-frames, datum-place) (short _ _ _ l)
 
+      -- the list as the code has it
       pub channel-whole : place + 2 * frames ≤ length s
-          → run (channel (trackAt s track) n) s reach ≡ accepted (max reach (place + 2 * frames)) (samples (record { start = 0; end = frames; place = place; size = 2 }) (view 2 (numberOf fix1-10-5) frames (drop place s)))
+          → run (channel (trackAt s track) n) s reach ≡ accepted (max reach (place + 2 * frames)) (samples (listMeans (record { place = place; length = frames; start = 0; end = frames; size = 2; rate = 0 })) (view 2 (numberOf fix1-10-5) frames (drop place s)))
       unfolding channel channelList run bind
-      channel-whole l = rw (carried, datum-frames, datum-place, view-take 2 (numberOf fix1-10-5) frames (drop place s)) (had _ _ _ _ l refl)
+      channel-whole l =
+          let none-over : (frames - 0) % 1 ≡ 0 = omega arith in
+          rw (carried, datum-frames, datum-place, view-take 2 (numberOf fix1-10-5) frames (drop place s), none-over) (had _ _ _ _ l refl)
 
 -- ---- the channels of a track
 

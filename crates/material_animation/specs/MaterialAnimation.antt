@@ -11,7 +11,7 @@ use Rattle.util.specs.Fixed.{fix1-10-5}
 use Rattle.util.specs.Sums.{total}
 use Rattle.matrix.specs.declared.Mat4.{Mat4}
 use Rattle.matrix.specs.Matrix.{f0, translation4}
-use Rattle.curve.specs.Curve.{Curve, none, samples, sampleCount, numberOf, mix, sampleAt}
+use Rattle.curve.specs.Curve.{ListRecord, Curve, none, samples, sampleCount, numberOf, mix, sampleAt}
 use Rattle.info_block.specs.Name.{Name}
 use Rattle.info_block.specs.InfoBlock.{infoBlock}
 
@@ -26,10 +26,13 @@ abbrev pub trackSamples : List (Curve Float) → ℕ
 trackSamples = total sampleCount
 
 -- a list that starts at frame 0, with a value for each frame
+abbrev pub everyFrame : ℕ → ℕ → ListRecord
+everyFrame frames off = record { start = 0; end = frames; place = off; size = 2; rate = 0; rest = 0 }
+
 unfoldable pub channelList : ℕ → ℕ → Reader (Curve Float)
 channelList frames off = do
   values ← list off 2 (numberOf fix1-10-5) frames
-  done (samples (record { start = 0; end = frames; place = off; size = 2 }) values)
+  done (samples (everyFrame frames off) values)
 
 -- a channel's datum: frames u16, u8, flags u8, offset u32. Only channels 3 (u) and 4 (v) with flags 16 carry a list.
 abbrev pub carries : ℕ → ℕ → Bool

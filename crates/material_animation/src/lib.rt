@@ -55,7 +55,8 @@ pub fn read_channel(s: &[u8], track: usize, n: usize, reach: usize) -> ChannelRe
         return ChannelRead::Whole(ScalarCurve::None, reach);
     }
     let at = track + 8 * n;
-    if byte(s, at + 3) != 16 {
+    let flags = byte(s, at + 3);
+    if flags != 16 {
         return ChannelRead::Whole(ScalarCurve::None, reach);
     }
     let frames = word16(s, at);
@@ -72,6 +73,7 @@ pub fn read_channel(s: &[u8], track: usize, n: usize, reach: usize) -> ChannelRe
                 place,
                 length: frames,
                 size: 2,
+                rate: 0,
             },
             Number::Fix1_10_5,
         ),

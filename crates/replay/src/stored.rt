@@ -19,6 +19,7 @@ use exports::motion_texture_names;
 use exports::motion_translation_curve;
 use exports::motion_uv_matrix;
 use util::view::word16;
+use words::CURVE_WORDS;
 ghost use Prim.Native.Nat.{_≤_};
 ghost use lib.ListN.{length};
 
@@ -121,7 +122,7 @@ fn run_record(s: &[u8], c: Call) {
     print_record(n, &out);
 }
 
-fn curve(s: &[u8], c: Call, out: &mut [u64; 6], value: &mut [f64; 1]) -> u32 {
+fn curve(s: &[u8], c: Call, out: &mut [u64; CURVE_WORDS], value: &mut [f64; 1]) -> u32 {
     let code = c.code;
     match code {
         2 => motion_translation_curve(s, c.entry, c.index, c.part, out, value),
@@ -129,23 +130,23 @@ fn curve(s: &[u8], c: Call, out: &mut [u64; 6], value: &mut [f64; 1]) -> u32 {
     }
 }
 
-fn print_curve(n: u32, out: &[u64; 6], value: &[f64; 1]) {
+fn print_curve(n: u32, out: &[u64; CURVE_WORDS], value: &[f64; 1]) {
     print(n, out, value, &[]);
 }
 
 fn run_curve(s: &[u8], c: Call) {
-    let mut out = [WORD; 6];
+    let mut out = [WORD; CURVE_WORDS];
     let mut value = [FLOAT; 1];
     let n = curve(s, c, &mut out, &mut value);
     print_curve(n, &out, &value);
 }
 
-fn print_scale(n: u32, out: &[u64; 6], value: &[f64; 2]) {
+fn print_scale(n: u32, out: &[u64; CURVE_WORDS], value: &[f64; 2]) {
     print(n, out, value, &[]);
 }
 
 fn run_scale(s: &[u8], c: Call) {
-    let mut out = [WORD; 6];
+    let mut out = [WORD; CURVE_WORDS];
     let mut value = [FLOAT; 2];
     let n = motion_scale_curve(s, c.entry, c.index, c.part, &mut out, &mut value);
     print_scale(n, &out, &value);
@@ -161,12 +162,12 @@ fn run_scale_value(s: &[u8], c: Call) {
     print_scale_value(n, &out);
 }
 
-fn print_rotation(n: u32, out: &[u64; 6], value: &[f64; 9]) {
+fn print_rotation(n: u32, out: &[u64; CURVE_WORDS], value: &[f64; 9]) {
     print(n, out, value, &[]);
 }
 
 fn run_rotation(s: &[u8], c: Call) {
-    let mut out = [WORD; 6];
+    let mut out = [WORD; CURVE_WORDS];
     let mut value = [FLOAT; 9];
     let n = motion_rotation_curve(s, c.entry, c.index, &mut out, &mut value);
     print_rotation(n, &out, &value);

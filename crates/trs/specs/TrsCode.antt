@@ -9,7 +9,7 @@ use Rattle.util.specs.Reader.{accepted, run, Verdict, answered, denied}
 use Rattle.matrix.specs.declared.Mat3.{Mat3}
 use Rattle.curve.specs.declared.ScalarCurve.{ScalarCurve}
 use Rattle.curve.specs.Curve.{Pair, Recorded, noCurve, always, listed}
-use Rattle.curve.specs.CurveCode.{listMeans, recordMeans, pairRecordMeans}
+use Rattle.curve.specs.CurveCode.{listRecordMeans, recordMeans, pairRecordMeans}
 use Rattle.animation.specs.declared.TRSCurves.{TRSCurves}
 use Rattle.animation.specs.declared.AxisCurves.{AxisCurves}
 use Rattle.animation.specs.Animation.{object}
@@ -44,7 +44,7 @@ scaleMeans (ScaleRecord.Refused n) = denied n
 abbrev pub rotationRecordMeans : RotationRecord → Recorded Mat3
 rotationRecordMeans RotationRecord.None = noCurve
 rotationRecordMeans (RotationRecord.Constant m) = always m
-rotationRecordMeans (RotationRecord.List l) = listed (listMeans l) (l .length)
+rotationRecordMeans (RotationRecord.List r) = listed (listRecordMeans r) (r .list .length)
 
 abbrev pub rotationAnswerMeans : RotationAnswer → Verdict (Recorded Mat3)
 rotationAnswerMeans (RotationAnswer.Curve r) = answered (rotationRecordMeans r)

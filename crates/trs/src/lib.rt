@@ -6,6 +6,7 @@ use animation::TRSCurves;
 use animation::Tables;
 use animation::read_object;
 use animation::refer;
+use curve::ListRecord;
 use curve::PairAnswer;
 use curve::PairRecord;
 use curve::SampleList;
@@ -120,7 +121,7 @@ pub fn scale_value(s: &[u8], a: AxisCurves, axis: usize, index: usize) -> PairAn
 pub enum RotationRecord {
     None,
     Constant(Mat3),
-    List(SampleList),
+    List(ListRecord),
 }
 
 pub enum RotationAnswer {

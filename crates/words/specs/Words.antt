@@ -41,11 +41,11 @@ checked (refused n) = denied n
 abbrev pub recordWords : ℕ × EntryRecord → List ℕ
 recordWords r = wordAt 8 (r .1 .name) 0 ∷ wordAt 8 (r .1 .name) 8 ∷ r .0 ∷ r .1 .frames ∷ r .1 .count ∷ []
 
--- a curve: 0 for none; 1 for a constant, whose value is floats; 2 for a list, with its start, end, place, length and bytes per value
+-- a curve: 0 for none; 1 for a constant, whose value is floats; 2 for a list, with its start, end, place, length, bytes per value, rate and rest
 abbrev pub curveWords : {A : Type 0} → Recorded A → List ℕ
 curveWords noCurve = 0 ∷ []
 curveWords (always v) = 1 ∷ []
-curveWords (listed l n) = 2 ∷ l .start ∷ l .end ∷ l .place ∷ n ∷ l .size ∷ []
+curveWords (listed l n) = 2 ∷ l .start ∷ l .end ∷ l .place ∷ n ∷ l .size ∷ l .rate ∷ l .rest ∷ []
 
 abbrev pub curveFloats : {A : Type 0} → (A → List Float) → Recorded A → List Float
 curveFloats floats noCurve = []

@@ -3,10 +3,10 @@ use calls::ChoiceAnswer;
 use calls::Found;
 use calls::ListAnswer;
 use calls::MatrixAnswer;
+use curve::ListRecord;
 use curve::Pair;
 use curve::PairAnswer;
 use curve::PairRecord;
-use curve::SampleList;
 use curve::ScalarRecord;
 use gltf::Resampling;
 use info_block::name::NameAnswer;
@@ -21,13 +21,16 @@ ghost use mathlib.Core.List.{List};
 ghost use lib.Ieee.{Float};
 ghost use lib.Seq.{sets};
 ghost use Rattle.curve.specs.Curve.{listed};
-ghost use Rattle.curve.specs.CurveCode.{listMeans, recordMeans, pairMeans, pairRecordMeans, pairAnswerMeans};
+ghost use Rattle.curve.specs.CurveCode.{listRecordMeans, recordMeans, pairMeans, pairRecordMeans, pairAnswerMeans};
 ghost use Rattle.info_block.specs.NameCode.{nameAnswerMeans};
 ghost use Rattle.trs.specs.TrsCode.{curveMeans, scaleMeans, rotationRecordMeans, rotationAnswerMeans};
 ghost use Rattle.nitro.specs.EntryCode.{checkMeans};
 ghost use Rattle.gltf.specs.CurveCode.{resamplingMeans};
 ghost use Rattle.calls.specs.AnswersCode.{listAnswerMeans, choiceAnswerMeans, matrixAnswerMeans, foundMeans};
 ghost use Rattle.words.specs.Words.{Writes, nameWords, checked, recordWords, curveWords, curveFloats, oneFloat, twoFloats, nineFloats, sixteenFloats, listedWords, chosenWords, resampledWords, foundWords};
+
+// The words that a curve's record may take.
+pub const CURVE_WORDS: usize = 8;
 
 // The record of an entry.
 pub fn put_record(c: EntryCheck, out: &mut [u64; 5]) -> u32
@@ -65,19 +68,22 @@ pub fn put_found(f: Found, out: &mut [u64; 2]) -> u32
 }
 
 // Where a curve's list stands.
-fn put_samples(l: SampleList, out: &mut [u64; 6])
-    ensures { λ _. ⌜ now (out .exit) ≡ sets (now (out .entry)) 0 (curveWords {A = Float} (listed (listMeans l) (l .length))) ⌝ }
+fn put_samples(r: ListRecord, out: &mut [u64; CURVE_WORDS])
+    ensures { λ _. ⌜ now (out .exit) ≡ sets (now (out .entry)) 0 (curveWords {A = Float} (listed (listRecordMeans r) (r .list .length))) ⌝ }
 {
+    let l = r.list;
     out[0] = 2;
     out[1] = l.start as u64;
     out[2] = l.end as u64;
     out[3] = l.place as u64;
     out[4] = l.length as u64;
     out[5] = l.size as u64;
+    out[6] = l.rate as u64;
+    out[7] = r.rest as u64;
 }
 
 // A curve of numbers.
-fn put_scalar(r: ScalarRecord, out: &mut [u64; 6], value: &mut [f64; 1])
+fn put_scalar(r: ScalarRecord, out: &mut [u64; CURVE_WORDS], value: &mut [f64; 1])
     ensures { λ _. ⌜ (now (out .exit) ≡ sets (now (out .entry)) 0 (curveWords (recordMeans r))) × (now (value .exit) ≡ sets (now (value .entry)) 0 (curveFloats oneFloat (recordMeans r))) ⌝ }
 {
     match r {
@@ -93,7 +99,7 @@ fn put_scalar(r: ScalarRecord, out: &mut [u64; 6], value: &mut [f64; 1])
 }
 
 // The record of a curve of numbers.
-pub fn put_curve(c: CurveRecord, out: &mut [u64; 6], value: &mut [f64; 1]) -> u32
+pub fn put_curve(c: CurveRecord, out: &mut [u64; CURVE_WORDS], value: &mut [f64; 1]) -> u32
     ensures { λ r. ⌜ Writes curveWords (curveMeans c) r (now (out .entry)) (now (out .exit)) × Writes (curveFloats oneFloat) (curveMeans c) r (now (value .entry)) (now (value .exit)) ⌝ }
 {
     match c {
@@ -114,7 +120,7 @@ fn put_two(v: Pair, out: &mut [f64; 2])
 }
 
 // A curve of pairs.
-fn put_pairs(r: PairRecord, out: &mut [u64; 6], value: &mut [f64; 2])
+fn put_pairs(r: PairRecord, out: &mut [u64; CURVE_WORDS], value: &mut [f64; 2])
     ensures { λ _. ⌜ (now (out .exit) ≡ sets (now (out .entry)) 0 (curveWords (pairRecordMeans r))) × (now (value .exit) ≡ sets (now (value .entry)) 0 (curveFloats twoFloats (pairRecordMeans r))) ⌝ }
 {
     match r {
@@ -130,7 +136,7 @@ fn put_pairs(r: PairRecord, out: &mut [u64; 6], value: &mut [f64; 2])
 }
 
 // The record of a scale's curve.
-pub fn put_scale(c: ScaleRecord, out: &mut [u64; 6], value: &mut [f64; 2]) -> u32
+pub fn put_scale(c: ScaleRecord, out: &mut [u64; CURVE_WORDS], value: &mut [f64; 2]) -> u32
     ensures { λ r. ⌜ Writes curveWords (scaleMeans c) r (now (out .entry)) (now (out .exit)) × Writes (curveFloats twoFloats) (scaleMeans c) r (now (value .entry)) (now (value .exit)) ⌝ }
 {
     match c {
@@ -171,7 +177,7 @@ fn put_nine(m: Mat3, out: &mut [f64; 9])
 }
 
 // A curve of rotations.
-fn put_turn(r: RotationRecord, out: &mut [u64; 6], value: &mut [f64; 9])
+fn put_turn(r: RotationRecord, out: &mut [u64; CURVE_WORDS], value: &mut [f64; 9])
     ensures { λ _. ⌜ (now (out .exit) ≡ sets (now (out .entry)) 0 (curveWords (rotationRecordMeans r))) × (now (value .exit) ≡ sets (now (value .entry)) 0 (curveFloats nineFloats (rotationRecordMeans r))) ⌝ }
 {
     match r {
@@ -187,7 +193,7 @@ fn put_turn(r: RotationRecord, out: &mut [u64; 6], value: &mut [f64; 9])
 }
 
 // The record of a curve of rotations.
-pub fn put_rotation(c: RotationAnswer, out: &mut [u64; 6], value: &mut [f64; 9]) -> u32
+pub fn put_rotation(c: RotationAnswer, out: &mut [u64; CURVE_WORDS], value: &mut [f64; 9]) -> u32
     ensures { λ r. ⌜ Writes curveWords (rotationAnswerMeans c) r (now (out .entry)) (now (out .exit)) × Writes (curveFloats nineFloats) (rotationAnswerMeans c) r (now (value .entry)) (now (value .exit)) ⌝ }
 {
     match c {

@@ -261,7 +261,7 @@ fn scalar(
     s: &[u8],
     ours: motion::Result<motion::Curve<f64>>,
     theirs: &Curve<f64>,
-    list: layout::List,
+    list: Option<layout::List>,
     value: &dyn Fn(&[u8], usize, usize) -> f64,
 ) -> Agreed {
     let ours = ours.map_err(|n| n.to_string())?;
@@ -272,8 +272,7 @@ fn scalar(
             Ok(())
         }
         (motion::Curve::List(l), Curve::Samples { start_frame, end_frame, values }) => {
-            agree!((l.start, l.end, l.length), (*start_frame, *end_frame, values.len()), "start, end and length");
-            agree!(Some((l.place, l.size)), list, "place and bytes per value, as the layout has them");
+            agree!(Some(l), list.map(|x| x.record(*start_frame, *end_frame, values.len())), "the list's record");
             for (k, v) in values.iter().enumerate() {
                 agree!(value(s, l.place + l.size * k, l.size).to_bits(), v.to_bits(), "value {k}");
             }
@@ -288,7 +287,7 @@ fn rotation(
     entry: usize,
     ours: motion::Result<motion::Curve<motion::Rotation>>,
     theirs: &Curve<Matrix3<f64>>,
-    list: layout::List,
+    list: Option<layout::List>,
 ) -> Agreed {
     let ours = ours.map_err(|n| n.to_string())?;
     let nine = |m: [[f64; 3]; 3]| m.iter().flatten().map(|x| x.to_bits()).collect::<Vec<_>>();
@@ -299,8 +298,7 @@ fn rotation(
             Ok(())
         }
         (motion::Curve::List(l), Curve::Samples { start_frame, end_frame, values }) => {
-            agree!((l.start, l.end, l.length), (*start_frame, *end_frame, values.len()), "start, end and length");
-            agree!(Some((l.place, l.size)), list, "place and bytes per value, as the layout has them");
+            agree!(Some(l), list.map(|x| x.record(*start_frame, *end_frame, values.len())), "the list's record");
             let (pivot, basis) = (entry + word32(s, entry + 12) as usize, entry + word32(s, entry + 16) as usize);
             for (k, v) in values.iter().enumerate() {
                 let x = word16(s, l.place + 2 * k);

@@ -22,7 +22,7 @@ fn curve<T>(c: motion::Curve<T>, say: impl Fn(T) -> Vec<u64>) -> Vec<u64> {
     match c {
         motion::Curve::None => vec![0],
         motion::Curve::Constant(v) => [vec![1], say(v)].concat(),
-        motion::Curve::List(l) => vec![2, l.start as u64, l.end as u64, l.place as u64, l.length as u64, l.size as u64],
+        motion::Curve::List(l) => layout::words(l).to_vec(),
     }
 }
 

@@ -1,5 +1,5 @@
-//! Where the lists of an accepted entry stand, the bytes of each value, and the pairs of a scale: a reading of the bytes by document 01's
-//! layout, beside the Rust, which keeps none of them.
+//! Where the lists of an accepted entry stand, the bytes of each value, the stored rates, and the pairs of a scale: a reading of the bytes by
+//! document 01's layout, beside the Rust, which keeps none of them.
 
 fn word16(s: &[u8], p: usize) -> usize {
     u16::from_le_bytes([s[p], s[p + 1]]) as usize
@@ -38,21 +38,41 @@ pub fn front(name: &[u8; 16]) -> &[u8] {
     name.split(|&b| b == 0).next().unwrap()
 }
 
-/// Where the values of a curve stand in the section, the bytes of each, and how many there are.
+/// Where a list stands in the section, the bytes of each value, and the stored rate.
+#[derive(Clone, Copy)]
+pub struct List {
+    place: usize,
+    size: usize,
+    rate: usize,
+}
+
+impl List {
+    /// The record of a list that has so many values from a start to an end: what its values leave over of its frames is the rest.
+    pub fn record(self, start: u16, end: u16, length: usize) -> motion::List {
+        let List { place, size, rate } = self;
+        let rest = end as usize - start as usize - length * [1, 2, 4, 8][rate];
+        motion::List { start, end, place, length, size, rate: rate as u16, rest: rest as u16 }
+    }
+}
+
+/// A list's record as the calls for C write it.
+pub fn words(l: motion::List) -> [u64; 8] {
+    let motion::List { start, end, place, length, size, rate, rest } = l;
+    [2, start as u64, end as u64, place as u64, length as u64, size as u64, rate as u64, rest as u64]
+}
+
+/// Where the values of a curve stand in the section; of a list also how many there are.
 #[derive(Clone, Copy)]
 enum Values {
     None,
     Constant(usize),
-    List(usize, usize, usize),
+    List(List, usize),
 }
 
-/// A list's place in the section, and the bytes of each value; none for a constant or no curve.
-pub type List = Option<(usize, usize)>;
-
-/// The lists of a JNT0 object: three of its translation, the rotation, three of its scale.
-pub fn object(s: &[u8], i: usize, o: usize) -> [List; 7] {
+/// The lists of a JNT0 object: three of its translation, the rotation, three of its scale; none for a constant or no curve.
+pub fn object(s: &[u8], i: usize, o: usize) -> [Option<List>; 7] {
     values(s, i, o).map(|v| match v {
-        Values::List(place, size, _) => Some((place, size)),
+        Values::List(list, _) => Some(list),
         _ => None,
     })
 }
@@ -80,8 +100,9 @@ fn values(s: &[u8], i: usize, o: usize) -> [Values; 7] {
         }
         let word = word32(s, at);
         let size = if k == 3 || bits(word, 28, 29) != 0 { 2 } else { 4 };
-        let count = (bits(word, 16, 27) - bits(word, 0, 15)) >> bits(word, 30, 31);
-        *curve = Values::List(e + word32(s, at + 4), numbers * size, count);
+        let rate = bits(word, 30, 31);
+        let count = (bits(word, 16, 27) - bits(word, 0, 15)) >> rate;
+        *curve = Values::List(List { place: e + word32(s, at + 4), size: numbers * size, rate }, count);
         at += 8;
     }
     curves
@@ -99,14 +120,14 @@ pub fn scale(s: &[u8], i: usize, o: usize) -> [Vec<motion::Pair>; 3] {
     [4, 5, 6].map(|k| match curves[k] {
         Values::None => vec![],
         Values::Constant(place) => vec![pair(place, 8)],
-        Values::List(place, size, count) => (0..count).map(|n| pair(place + size * n, size)).collect(),
+        Values::List(List { place, size, .. }, count) => (0..count).map(|n| pair(place + size * n, size)).collect(),
     })
 }
 
-/// A channel of an SRT0 track that carries a list.
-pub fn channel(s: &[u8], i: usize, track: usize, channel: usize) -> (usize, usize) {
+/// A channel of an SRT0 track that carries a list: a value for each frame.
+pub fn channel(s: &[u8], i: usize, track: usize, channel: usize) -> List {
     let e = entry(s, i);
-    (e + word32(s, datum(s, e + 8, 40, track) + 8 * channel + 4), 2)
+    List { place: e + word32(s, datum(s, e + 8, 40, track) + 8 * channel + 4), size: 2, rate: 0 }
 }
 
 /// The texture names of a PAT0 entry.

@@ -155,6 +155,11 @@ fn main() {
         run.section("scales", &s);
         run.cuts(&s);
     }
+    // every rest of every rate
+    for s in sections::rated() {
+        run.section("rates", &s);
+        run.cuts(&s);
+    }
     // crowd scenes
     for s in sections::CROWDS.into_iter().flat_map(sections::damaged_crowd) {
         run.section("crowd scenes", &s);

@@ -84,10 +84,10 @@ impl Call {
     fn lent(&self) -> Lent {
         let (words, floats, bytes) = match self.code {
             RECORD => (5, 0, 0),
-            TRANSLATION | CHANNEL => (6, 1, 0),
-            SCALE => (6, 2, 0),
+            TRANSLATION | CHANNEL => (8, 1, 0),
+            SCALE => (8, 2, 0),
             SCALE_VALUE => (0, 2, 0),
-            ROTATION => (6, 9, 0),
+            ROTATION => (8, 9, 0),
             UV => (0, 16, 0),
             RESAMPLE_TRANSLATION | RESAMPLE_SCALE => (4, 40, 0),
             MATRIX => (0, 0, 140),
@@ -112,7 +112,7 @@ fn floats<'a>(m: impl IntoIterator<Item = &'a f64>) -> Vec<u64> {
 }
 
 /// The record of a curve, whose list stands as the layout says.
-fn put_curve<T: Copy>(lent: &mut Lent, c: &Curve<T>, list: layout::List, say: impl Fn(T) -> Vec<u64>) {
+fn put_curve<T: Copy>(lent: &mut Lent, c: &Curve<T>, list: Option<layout::List>, say: impl Fn(T) -> Vec<u64>) {
     match c {
         Curve::None => put(&mut lent.words, &[0]),
         Curve::Constant(v) => {
@@ -120,8 +120,7 @@ fn put_curve<T: Copy>(lent: &mut Lent, c: &Curve<T>, list: layout::List, say: im
             put(&mut lent.floats, &say(*v));
         }
         Curve::Samples { start_frame, end_frame, values } => {
-            let (place, size) = list.unwrap();
-            put(&mut lent.words, &[2, *start_frame as u64, *end_frame as u64, place as u64, values.len() as u64, size as u64]);
+            put(&mut lent.words, &layout::words(list.unwrap().record(*start_frame, *end_frame, values.len())));
         }
     }
 }
@@ -341,6 +340,11 @@ pub fn stored(sections: usize) -> (Vec<u8>, String) {
         let entry = [RECORD, CHECK].map(|code| Call { code, ..Call::default() });
         let asked = [0, 1, 5, 256, objects - 1, objects].map(|o| of_object(o as u16)).concat();
         kept.push((sections::crowd(objects), [&entry[..], &asked].concat()));
+    }
+    // every rest of every rate, in each sort of curve
+    for s in sections::rated() {
+        let calls = [TRANSLATION, ROTATION, SCALE].map(|code| Call { code, ..Call::default() }).to_vec();
+        kept.push((s, calls));
     }
     let count: usize = kept.iter().map(|(_, calls)| calls.len()).sum();
     let (mut list, mut behind, mut lines) = ((count as u16).to_le_bytes().to_vec(), Vec::new(), String::new());

@@ -269,6 +269,39 @@ pub fn scaled() -> Vec<Vec<u8>> {
     found
 }
 
+/// Sections whose object has a list in its translation on x, in its rotation and in its scale on x, all of one rate and as many frames: each rate
+/// with one to eleven frames, so that every rest is there. The widths are other numbers than the rate.
+pub fn rated() -> Vec<Vec<u8>> {
+    let mut found = Vec::new();
+    for rate in 0..4 {
+        for frames in 1..=11 {
+            let start = frames % 3;
+            let list = |e: &mut Vec<u8>, turn: usize, offset: usize| {
+                put32(e, start | (start + frames) << 16 | ((rate + turn) % 4) << 28 | rate << 30);
+                put32(e, offset);
+            };
+            let mut e = b"J\0AC\x0c\0\x01\0\0\0\0\0".to_vec();
+            put32(&mut e, 184);
+            put32(&mut e, 0);
+            put16(&mut e, 22);
+            // y and z are constant
+            put16(&mut e, 0b11 << 4 | 0b11 << 12);
+            put16(&mut e, 0);
+            list(&mut e, 1 + frames % 3, 74);
+            e.extend([0x10; 8]);
+            list(&mut e, 3, 162);
+            list(&mut e, 1 + (frames + 1) % 3, 74);
+            e.extend([0x20; 16]);
+            // the values of both lists of numbers, the references, and two pivot records
+            e.extend((0..88).map(|k| (37 * k + 11 * frames + rate) as u8));
+            (0..11).for_each(|k| put16(&mut e, 0x8000 | k % 2));
+            e.extend((0..12).map(|k| k + rate as u8));
+            found.push(section(b"JNT0", &[e], &mut Rng::new(1)));
+        }
+    }
+    found
+}
+
 // ---- SRT0
 
 fn material(rng: &mut Rng) -> Vec<u8> {

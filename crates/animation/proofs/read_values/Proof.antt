@@ -23,7 +23,7 @@ returns-2 c =
     let l = c .before .before in
     let v = l .before .before .before in
     let a = v .before .before .args in
-    code-whole (tripleMeans (a .which)) (a .w) (a .offset) (a .at .pos) (a .at .reach) (a .s .now) _ (v .value-size .ensures) _ (l .before .before .sample-list .ensures) _ (c .before .number-of .ensures) _ (c .greater .ensures) (l .if1 .left)
+    code-whole (tripleMeans (a .which)) (a .w) (a .offset) (a .at .pos) (a .at .reach) (a .s .now) _ (v .value-size .ensures) _ (l .before .before .sample-list .ensures) _ (c .before .number-of .ensures) (v .before .before .pre) _ (c .greater .ensures) (l .if1 .left)
 
 pub read-values-spec : {M : Type 1} → statement M
 read-values-spec =

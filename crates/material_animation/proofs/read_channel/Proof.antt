@@ -35,7 +35,7 @@ returns-4 c =
     let a = z .args in
     record {
       reads = channel-whole (a .s .now) (a .track) (a .n) (z .pre .1) (a .reach) (b .before .if1 .left) (sym (b .byte .ensures) ∙ w2 .before .if2 .left) _ _ (sym (w2 .word16 .ensures)) (sym (w4 .word32 .ensures)) (c .before .if3 .left) ∙ to _ _ _ (sym (c .greater .ensures));
-      holds = record { ends = c .before .if3 .left; frames = omega arith; wide = lit≤ tt };
+      holds = record { ends = c .before .if3 .left; framed = record { ordered = omega arith; rated = lit≤ tt }; frames = omega arith; wide = lit≤ tt };
     }
 
 pub read-channel-spec : {M : Type 1} → statement M
