@@ -2,8 +2,8 @@
  *
  * Link with libexports.a, which `rt staticlib exports` writes to target/staticlib.
  *
- * Every call takes a section of `length` bytes, of any length and with any contents, and ends. It answers 0, or the number of its
- * refusal:
+ * Every call takes a section of `length` bytes, motion_material two, of any length and with any contents, and ends. It answers 0, or the number
+ * of its refusal:
  *
  *    1  the first four bytes are no stamp that the call takes
  *    2  too short: a part ends past the section
@@ -17,9 +17,10 @@
  *   10  nothing to sample: an empty list, or a track without keys
  *   11  the lent slice is too small
  *   12  more than 999 objects
+ *   14  neither entry has a track of this name
  *
  * What is lent keeps its contents where the call refuses. No pointer may be null, not even for 0 bytes, and what a call writes into may
- * not overlap the section. Indexes count from 0.
+ * not overlap a section. Indexes count from 0.
  */
 #ifndef MOTION_H
 #define MOTION_H
@@ -75,6 +76,13 @@ uint32_t motion_keys(const uint8_t *section, size_t length, size_t entry, size_t
 
 /* The texture and the palette of a PAT0 track at a frame, as indexes of the entry's names. */
 uint32_t motion_choice(const uint8_t *section, size_t length, size_t entry, size_t track, uint16_t frame, uint64_t out[2]);
+
+/* A material by its name at a frame, from an SRT0 section and a PAT0 section: the shift of the SRT0 entry's earliest track with that name, u and
+ * v, and the choice of the PAT0 entry's. choice[0] is 1, with the texture and the palette in choice[1] and choice[2], or 0 for no choice, and
+ * then the other two keep their contents. A side without such a track gives its default, 0 and 0 or no choice. The refusals of the SRT0 section
+ * come first, then those of the PAT0 section, then 14 where neither side has the track, then 10 where the PAT0 entry's has no keys. Names are
+ * compared as by motion_find. */
+uint32_t motion_material(const uint8_t *srt, size_t srt_length, size_t srt_entry, const uint8_t *pat, size_t pat_length, size_t pat_entry, const uint8_t name[16], uint16_t frame, double shift[2], uint64_t choice[3]);
 
 /* An object's translation or scale at the common frames of its three curves: x, y, z for each frame, into the `count` doubles at `floats`
  * from element `place` on. out[0] is 1, with the first frame, the one after the last, and how many frames were written; or 0 for three

@@ -16,7 +16,7 @@ use std::fmt;
 /// What a call answers: a value, or the number of its refusal.
 pub type Result<T> = std::result::Result<T, Refusal>;
 
-/// The number of a refusal, 1 to 13.
+/// The number of a refusal, 1 to 14.
 #[derive(Clone, Copy, Debug, PartialEq, Eq)]
 pub struct Refusal(pub u32);
 
@@ -41,6 +41,7 @@ impl Refusal {
             11 => "the slice is too small",
             12 => "the animation has more than 999 objects",
             13 => "the input has more than 65,536 bytes",
+            14 => "neither entry has a track of this name",
             _ => "no refusal has this number",
         }
     }
@@ -109,6 +110,15 @@ pub struct Place {
 pub struct Choice {
     pub texture: u8,
     pub palette: u8,
+}
+
+/// A material at a frame.
+#[derive(Clone, Copy, Debug, PartialEq)]
+pub struct Material {
+    /// How far the texture is shifted: u and v.
+    pub shift: [f64; 2],
+    /// The texture and the palette that are chosen, if they are.
+    pub choice: Option<Choice>,
 }
 
 /// What was resampled: the first frame and the one after the last (none for three missing curves), and how many frames were written.
@@ -181,6 +191,18 @@ mod calls {
         pub fn motion_palette_names(s: *const u8, len: usize, entry: usize, out: *mut [u64; 2]) -> u32;
         pub fn motion_keys(s: *const u8, len: usize, entry: usize, track: usize, out: *mut [u64; 2]) -> u32;
         pub fn motion_choice(s: *const u8, len: usize, entry: usize, track: usize, frame: u16, out: *mut [u64; 2]) -> u32;
+        pub fn motion_material(
+            srt: *const u8,
+            srt_len: usize,
+            srt_entry: usize,
+            pat: *const u8,
+            pat_len: usize,
+            pat_entry: usize,
+            name: *const [u8; 16],
+            frame: u16,
+            shift: *mut [f64; 2],
+            choice: *mut [u64; 3],
+        ) -> u32;
         pub fn motion_resample_translation(
             s: *const u8,
             len: usize,
@@ -521,6 +543,31 @@ pub fn pattern_name(section: &[u8], entry: usize, track: usize) -> Result<[u8; 1
     answer(n, name_of(out[0], out[1]))
 }
 
+// ---- SRT0 and PAT0 together
+
+/// A material by its name at a frame: the shift of the SRT0 entry's earliest track with that name, and the choice of the PAT0 entry's. A side
+/// without such a track gives its default, no shift or no choice; where neither has one the call is refused with 14. Names are compared as by
+/// [`find`].
+///
+/// ```
+/// use motion::{example::{DRIFT, FLIP}, Choice, Refusal};
+/// let of = |name| motion::material(DRIFT, 0, FLIP, 0, name, 5).map(|m| (m.shift, m.choice));
+/// assert_eq!(of(b"sea\0\0\0\0\0\0\0\0\0\0\0\0\0"), Ok(([1.0, -2.0], Some(Choice { texture: 0, palette: 1 }))));
+/// assert_eq!(of(b"ice\0\0\0\0\0\0\0\0\0\0\0\0\0"), Ok(([0.0, 0.0], None)));
+/// assert_eq!(of(b"sun\0\0\0\0\0\0\0\0\0\0\0\0\0"), Ok(([0.0, 0.0], Some(Choice { texture: 0, palette: 0 }))));
+/// // a track without keys, and no track
+/// assert_eq!(of(b"sky\0\0\0\0\0\0\0\0\0\0\0\0\0"), Err(Refusal(10)));
+/// assert_eq!(of(b"fog\0\0\0\0\0\0\0\0\0\0\0\0\0"), Err(Refusal(14)));
+/// ```
+pub fn material(srt: &[u8], srt_entry: usize, pat: &[u8], pat_entry: usize, name: &[u8; 16], frame: u16) -> Result<Material> {
+    let (mut shift, mut choice) = ([0.0; 2], [0; 3]);
+    let n = unsafe {
+        calls::motion_material(srt.as_ptr(), srt.len(), srt_entry, pat.as_ptr(), pat.len(), pat_entry, name, frame, &mut shift, &mut choice)
+    };
+    let chosen = Choice { texture: choice[1] as u8, palette: choice[2] as u8 };
+    answer(n, Material { shift, choice: (choice[0] == 1).then_some(chosen) })
+}
+
 /// Sections to try the calls on.
 pub mod example {
     /// A JNT0 section with the entry `walk`: twelve frames, and one object, whose translation is 1, -1, 0.5.
@@ -533,4 +580,12 @@ pub mod example {
     /// A JNT0 section with the entry `sway`: twelve frames, and one object with three lists of eleven frames, in its translation on x at rate 1, in
     /// its rotation at rate 2 and in its scale on x at rate 3.
     pub const SWAY: &[u8] = b"JNT0\x96\0\0\0\0\x01\0\0\0\0\0\0\0\0\0\0\0\0\0\0\x04\0\0\0\x30\0\0\0sway\0\0\0\0\0\0\0\0\0\0\0\0J\0AC\x0c\0\x01\0\0\0\0\0\x58\0\0\0\0\0\0\0\x16\0\x30\x30\0\0\0\0\x0b\x60\x4a\0\0\0\0\0\0\0\0\0\0\0\x01\0\x0c\x80\x54\0\0\0\0\0\x0b\xc0\x5e\0\0\0\0\x10\0\0\0\x10\0\0\0\x10\0\0\0\x10\0\0\0\x10\0\x08\0\0\0\xf8\0\xf0\0\x80\0\x80\0\0\0\0\0\0\0\x10\0\0\0\x10\0\0";
+
+    /// An SRT0 section with the entry `drift` and four tracks: `sea`, shifted by 1 and -2, with other bytes behind the name's zero; `sky`; a later
+    /// `sea`, shifted by -2 and 1; and `ice`. `sky` and `ice` are not shifted.
+    pub const DRIFT: &[u8] = b"SRT0\x3c\x01\0\0\0\x01\0\0\0\0\0\0\0\0\0\0\0\0\0\0\x04\0\0\0\x30\0\0\0drift\0\0\0\0\0\0\0\0\0\0\0\0\0\0\0\x01\0\0\0\0\x04\0\0\0\0\0\0\0\0\0\0\0\0\0\0\0\0\0\0\0\0\0\0\0\0\0\0\x28\0\0\0\0\0\0\0\0\0\0\0\0\0\0\0\0\0\0\0\0\0\0\0\0\0\0\0\x01\0\0\x10\x08\x01\0\0\x01\0\0\x10\x0a\x01\0\0\0\0\0\0\0\0\0\0\0\0\0\0\0\0\0\0\0\0\0\0\0\0\0\0\0\0\0\0\0\0\0\0\0\0\0\0\0\0\0\0\0\0\0\0\0\0\0\0\0\0\0\0\0\0\0\0\0\0\0\0\0\0\0\0\x01\0\0\x10\x0a\x01\0\0\x01\0\0\x10\x08\x01\0\0\0\0\0\0\0\0\0\0\0\0\0\0\0\0\0\0\0\0\0\0\0\0\0\0\0\0\0\0\0\0\0\0\0\0\0\0\0\0\0\0sea\0\xff\xff\xff\xff\xff\xff\xff\xff\xff\xff\xff\xffsky\0\0\0\0\0\0\0\0\0\0\0\0\0sea\0\0\0\0\0\0\0\0\0\0\0\0\0ice\0\0\0\0\0\0\0\0\0\0\0\0\0\x20\0\xc0\xff";
+
+    /// A PAT0 section with the entry `flip` and four tracks: `sky`, without keys; `sea`, of palette 1, with other bytes behind the name's zero; a
+    /// later `sea` and `sun`, of palette 0.
+    pub const FLIP: &[u8] = b"PAT0\xe4\0\0\0\0\x01\0\0\0\0\0\0\0\0\0\0\0\0\0\0\x04\0\0\0\x30\0\0\0flip\0\0\0\0\0\0\0\0\0\0\0\0\0\0\0\0\x0a\0\x01\x02\x94\0\x94\0\0\x04\0\0\0\0\0\0\0\0\0\0\0\0\0\0\0\0\0\0\0\0\0\0\0\0\0\0\x08\0\0\0\0\0\0\0\0\0\x8c\0\x01\0\0\0\0\0\x8c\0\x01\0\0\0\0\0\x90\0\x01\0\0\0\0\0\x90\0sky\0\0\0\0\0\0\0\0\0\0\0\0\0sea\0\xee\xee\xee\xee\xee\xee\xee\xee\xee\xee\xee\xeesea\0\0\0\0\0\0\0\0\0\0\0\0\0sun\0\0\0\0\0\0\0\0\0\0\0\0\0\x03\0\0\x01\x03\0\0\0\0\0\0\0\0\0\0\0\0\0\0\0\0\0\0\0\0\0\0\0\0\0\0\0\0\0\0\0\0\0\0\0";
 }

@@ -21,9 +21,11 @@ motion curve FILE ENTRY TRACK channel CHANNEL
 motion scale FILE ENTRY OBJECT AXIS INDEX
 motion resample FILE ENTRY OBJECT translation
 motion resample FILE ENTRY OBJECT scale
+motion material FILE ENTRY FILE ENTRY NAME FRAME
 
-FILE is a JNT0, SRT0 or PAT0 section; - is standard input. NAME is text, or 0x and 32 hex digits; it ends before its
-first zero byte, and so does an entry's name. Of entries with equal names the first is found. FRAME is 0 to 65535.
+FILE is a JNT0, SRT0 or PAT0 section; - is standard input. A material has two: an SRT0 section first, then a PAT0
+section. NAME is text, or 0x and 32 hex digits; it ends before its first zero byte, and so does the name of an entry or
+a track. Of entries or tracks with equal names the first is found. FRAME is 0 to 65535.
 ENTRY, OBJECT, TRACK, AXIS, CHANNEL and INDEX count from 0; INDEX counts the values that a scale's curve stores, of
 which each has two numbers and the first is sampled.
 --bits, in any place, prints each float as sixteen hex digits.
@@ -74,8 +76,12 @@ impl Args {
     }
 
     fn section(&self) -> Result<Vec<u8>, Stop> {
+        self.section_at(1)
+    }
+
+    fn section_at(&self, at: usize) -> Result<Vec<u8>, Stop> {
         // a file's name may be any bytes
-        let file = self.words.get(1).ok_or_else(|| Stop::Misuse("FILE is missing".into()))?;
+        let file = self.words.get(at).ok_or_else(|| Stop::Misuse("FILE is missing".into()))?;
         if file == "-" {
             read_input().map_err(|e| Stop::Unread("standard input".into(), e))
         } else {
@@ -224,6 +230,22 @@ fn resample(args: &Args) -> Outcome {
     Ok(format!("{span}\nframes={}\n{frames}", r.frames))
 }
 
+fn material(args: &Args) -> Outcome {
+    args.no_more(7)?;
+    let input = |at: usize| args.words.get(at).is_some_and(|file| file == "-");
+    if input(1) && input(3) {
+        return Err(Stop::Misuse("standard input can be only one of the two sections".into()));
+    }
+    let (srt, srt_entry) = (args.section_at(1)?, args.index(2, "the first ENTRY")?);
+    let (pat, pat_entry) = (args.section_at(3)?, args.index(4, "the second ENTRY")?);
+    let m = motion::material(&srt, srt_entry, &pat, pat_entry, &name_of(args.word(5, "NAME")?)?, args.frame(6)?)?;
+    let choice = match m.choice {
+        Some(c) => format!("texture={}\npalette={}\n", c.texture, c.palette),
+        None => "no choice\n".into(),
+    };
+    Ok(format!("u={}\nv={}\n{choice}", args.floats(&m.shift[..1]), args.floats(&m.shift[1..])))
+}
+
 fn run(args: &Args, options: &[OsString]) -> Outcome {
     if let Some(option) = options.iter().find(|&o| o != "--bits" && o != "--help") {
         return Err(Stop::Misuse(format!("there is no option {option:?}")));
@@ -241,6 +263,7 @@ fn run(args: &Args, options: &[OsString]) -> Outcome {
         "curve" => curve(args),
         "scale" => scale(args),
         "resample" => resample(args),
+        "material" => material(args),
         other => Err(Stop::Misuse(format!("there is no command {other:?}"))),
     }
 }

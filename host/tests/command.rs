@@ -110,6 +110,44 @@ fn rests() {
 }
 
 #[test]
+fn materials() {
+    let (drift, flip) = (motion::example::DRIFT, motion::example::FLIP);
+    let of = |name: &str, srt: &[u8]| {
+        let pat = holding("flip", flip);
+        motion(&format!("material - 0 {} 0 {name} 5", pat.display()), srt)
+    };
+    // the first track of the name on each side, which is not the one with all sixteen bytes
+    assert_eq!(of("sea", drift), ("u=1.0\nv=-2.0\ntexture=0\npalette=1\n".into(), 0));
+    assert_eq!(of("0x73656100777777777777777777777777", drift), of("sea", drift));
+    // one side alone
+    assert_eq!(of("ice", drift), ("u=0.0\nv=0.0\nno choice\n".into(), 0));
+    assert_eq!(of("sun", drift), ("u=0.0\nv=0.0\ntexture=0\npalette=0\n".into(), 0));
+    assert_eq!(of("sun --bits", drift), ("u=0000000000000000\nv=0000000000000000\ntexture=0\npalette=0\n".into(), 0));
+    // the other section on standard input
+    let srt = holding("drift", drift);
+    assert_eq!(motion(&format!("material {} 0 - 0 sea 5", srt.display()), flip), of("sea", drift));
+    // a track without keys, and no track
+    let refusal = |srt: &[u8], i, pat: &[u8], j, name: &[u8; 3]| {
+        let mut sought = [0; 16];
+        sought[..3].copy_from_slice(name);
+        motion::material(srt, i, pat, j, &sought, 5).unwrap_err().0
+    };
+    assert_eq!(refusal(drift, 0, flip, 0, b"sky"), 10);
+    assert_eq!(refusal(drift, 0, flip, 0, b"fog"), 14);
+    assert_eq!((of("sky", drift), of("fog", drift)), (("".into(), 1), ("".into(), 1)));
+    // the SRT0 section is tested first, whatever the other is, then the PAT0 section, and then the name
+    assert_eq!(refusal(flip, 0, drift, 0, b"sea"), 1);
+    assert_eq!(refusal(&drift[..315], 0, flip, 4, b"fog"), 2);
+    assert_eq!(refusal(drift, 4, &flip[..3], 4, b"fog"), 9);
+    assert_eq!(refusal(drift, 0, &flip[..227], 0, b"fog"), 2);
+    assert_eq!(refusal(drift, 0, flip, 4, b"fog"), 9);
+    // what follows the reaches changes nothing
+    let long = |s: &[u8]| [s, b"and more"].concat();
+    assert_eq!(of("sea", &long(drift)), of("sea", drift));
+    assert_eq!(refusal(&long(drift), 0, &long(flip), 0, b"fog"), 14);
+}
+
+#[test]
 fn names_with_leftovers() {
     let mut section = WALK.to_vec();
     section[36..48].copy_from_slice(b"\0ing leftove");
@@ -169,6 +207,10 @@ fn misused() {
         "scale - 0 0 0 0 0",
         "find - a-name-that-is-too-long",
         "check - 0 --bytes",
+        "material - 0 - 0 sea 5",
+        "material - 0 / 0 sea",
+        "material - 0 / 0 sea 5 5",
+        "material - 0 / 0 a-name-that-is-too-long 5",
     ] {
         assert_eq!(motion(words, WALK), ("".into(), 2), "{words}");
     }
@@ -190,8 +232,12 @@ fn write_only(path: &str) -> Stdio {
 
 /// A file of the tests that holds a section.
 fn file(name: &OsStr) -> PathBuf {
+    holding(name, WALK)
+}
+
+fn holding(name: impl AsRef<Path>, section: &[u8]) -> PathBuf {
     let path = Path::new(env!("CARGO_TARGET_TMPDIR")).join(name);
-    fs::write(&path, WALK).unwrap();
+    fs::write(&path, section).unwrap();
     path
 }
 
@@ -210,6 +256,11 @@ fn not_read() {
     let missing = Path::new(env!("CARGO_TARGET_TMPDIR")).join("no-such-file");
     let (text, status) = complaint(&[OsStr::new("list"), missing.as_os_str()], Stdio::null(), Stdio::null());
     assert_eq!((text, status), (format!("motion: cannot read {}: No such file or directory (os error 2)\n", missing.display()), 2));
+    // the second of two files too
+    let (srt, second) = (holding("drift-alone", motion::example::DRIFT), missing.to_str().unwrap());
+    let words = ["material", srt.to_str().unwrap(), "0", second, "0", "sea", "5"];
+    let (text, status) = complaint(&words, Stdio::null(), Stdio::null());
+    assert_eq!((text, status), (format!("motion: cannot read {second}: No such file or directory (os error 2)\n"), 2));
     let (text, status) = complaint(&["list", "/"], Stdio::null(), Stdio::null());
     assert_eq!((text.as_str(), status), ("motion: cannot read /: Is a directory (os error 21)\n", 2));
     let (text, status) = complaint(&["list", "-"], read_only("/"), Stdio::null());

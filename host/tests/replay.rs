@@ -23,6 +23,18 @@ extern "C" {
     fn motion_palette_names(s: *const u8, len: usize, entry: usize, out: *mut u64) -> u32;
     fn motion_keys(s: *const u8, len: usize, entry: usize, i: usize, out: *mut u64) -> u32;
     fn motion_choice(s: *const u8, len: usize, entry: usize, i: usize, frame: u16, out: *mut u64) -> u32;
+    fn motion_material(
+        srt: *const u8,
+        srt_len: usize,
+        srt_entry: usize,
+        pat: *const u8,
+        pat_len: usize,
+        pat_entry: usize,
+        name: *const u8,
+        frame: u16,
+        shift: *mut u64,
+        choice: *mut u64,
+    ) -> u32;
     fn motion_resample_translation(
         s: *const u8,
         len: usize,
@@ -95,6 +107,10 @@ fn call(c: &[u8], s: &[u8], words: &mut [u64], floats: &mut [u64], bytes: &mut [
             15 => motion_matrix(p, len, entry, index, frame, bytes.as_mut_ptr(), room.min(140)),
             16 => motion_check(p, len, entry),
             17 => motion_scale_value(p, len, entry, index, part, place, f),
+            18 => {
+                let (srt, pat) = s.split_at(index.min(len));
+                motion_material(srt.as_ptr(), srt.len(), entry, pat.as_ptr(), pat.len(), part, c[9..25].as_ptr(), frame, f, w)
+            }
             code => panic!("no call has the code {code}"),
         }
     }
@@ -112,6 +128,7 @@ fn lent(code: u8) -> (usize, usize, usize) {
         15 => (0, 0, 140),
         16 => (0, 0, 0),
         17 => (0, 2, 0),
+        18 => (3, 2, 0),
         _ => (2, 0, 0),
     }
 }

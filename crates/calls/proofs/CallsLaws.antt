@@ -1,18 +1,22 @@
 -- A call's answer, from what its steps found. Assumes nothing.
-use Prim.Native.Nat.{ℕ}
-use mathlib.Core.List.{List}
-use mathlib.Core.Path.{_≡_, refl, ap, _∙_}
-use lib.ListN.{take, drop}
-use Rattle.util.specs.Reader.{done, accepted, refused, run, bind, Verdict, answered, denied, tell, told}
+use Prim.Native.Nat.{ℕ, _≤_}
+use mathlib.Core.List.{List, [], _∷_}
+use mathlib.Core.Path.{_≡_, refl, sym, ap, _∙_}
+use native.Mathlib.Omega.{arith}
+use lib.ListN.{length, take, drop}
+use Rattle.util.specs.Reader.{done, Outcome, accepted, refused, run, bind, Verdict, answered, denied, tell, told, andThen}
 use Rattle.util.proofs.ReadsLaws.{goes-on, stops}
 use Rattle.info_block.specs.Name.{Name, earliest}
 use Rattle.info_block.specs.InfoBlock.{Block}
+use Rattle.material_animation.specs.MaterialAnimation.{shiftOf}
+use Rattle.pattern.specs.Pattern.{Key, choice, keysOf}
 use Rattle.nitro.specs.declared.container.EntryAt.{EntryAt}
 use Rattle.nitro.specs.declared.container.EntryFound.{EntryFound}
-use Rattle.nitro.specs.Container.{Kind, allKinds, stamped, section, Value, value, Entry, entry, recordOf, entryOf}
+use Rattle.nitro.specs.Container.{Kind, srt, pat, allKinds, stamped, section, Value, value, Entry, entry, recordOf, entryOf}
 use Rattle.nitro.specs.ContainerCode.{entryFrom}
 use Rattle.nitro.specs.EntryCode.{OpenReads}
-use Rattle.calls.specs.Calls.{Query, ask, check, find, on, reader, answer}
+use Rattle.calls.specs.Calls.{chosenOf, Query, ask, check, find, on, reader, answer}
+use Rattle.calls.specs.Material.{Material, joined, material}
 
 -- ---- calls that take all kinds
 
@@ -62,3 +66,21 @@ module _ (s : List ℕ) (name : Name) where
     pub find-earliest : (m : ℕ) (b : Block) → run section s 4 ≡ accepted m b → answer (find name) s ≡ accepted m (earliest name (b .names))
     unfolding answer reader run
     find-earliest m b q = goes-on _ _ _ _ 4 k e ∙ goes-on _ _ _ _ m b q
+
+-- ---- the key that holds at a frame
+
+pub some-chosen : (ks : List Key) (frame : ℕ) (k : Key) → 1 ≤ length ks → ((default : Key) → k ≡ choice ks default frame)
+    → chosenOf ks frame ≡ answered (record { texture = k .texture; palette = k .palette })
+unfolding chosenOf
+some-chosen [] frame k h e = absurd (omega arith)
+some-chosen (x ∷ xs) frame k h e = λ j. answered (record { texture = sym (e x) j .texture; palette = sym (e x) j .palette })
+
+-- ---- a material, from what is read of each entry
+
+abbrev pub together : Name → ℕ → Verdict (Entry srt) → Verdict (Entry pat) → Verdict Material
+together name frame v w = andThen v λ a. andThen w λ b. joined frame (shiftOf name frame (a .held)) (keysOf name (b .held))
+
+pub by-entries : (i j : ℕ) (name : Name) (frame : ℕ) (s p : List ℕ) (v : Outcome (Entry srt)) (w : Outcome (Entry pat)) → run (entryOf srt i) s 0 ≡ v → run (entryOf pat j) p 0 ≡ w
+    → material i j name frame s p ≡ together name frame (told v) (told w)
+unfolding material
+by-entries i j name frame s p v w e f = rw (e, f) refl

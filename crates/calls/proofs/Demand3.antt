@@ -6,21 +6,21 @@ use mathlib.Core.Option.{Option}
 use mathlib.Core.Path.{_≡_, refl, sym, ap, subst, _∙_}
 use native.Mathlib.Omega.{arith}
 use lib.ListN.{length, take, length-append, length-take}
-use Rattle.util.specs.Reader.{done, accepted, refused, run, bind, answered, denied, tell}
+use Rattle.util.specs.Reader.{done, accepted, refused, run, bind, answered, denied}
 use Rattle.util.specs.Place.{front}
 use Rattle.util.proofs.Cut as util-cut
 use Rattle.util.proofs.Cut.{had, grows, same-part}
-use Rattle.util.proofs.Calls as util-calls
-use Rattle.util.proofs.Calls.{after, run-bind-as, accepted-first}
+use Rattle.util.proofs.Calls.{accepted-first, answered-alike}
+use Rattle.util.proofs.ReadsLaws.{goes-on, stops}
 use Rattle.info_block.specs.Name.{Name, earliest}
-use Rattle.nitro.specs.Container.{Kind, allKinds, kindOf, stamped, section, Entry, entryIn, entry, EntryRecord, recordOf, entryOf}
-use Rattle.nitro.proofs.ContainerLaws.{taken, stamp-of, stamp-taken, stamp-refused}
+use Rattle.nitro.specs.Container.{Kind, stampOf, allKinds, kindOf, stamped, section, Entry, entryIn, entry, EntryRecord, recordOf, entryOf}
+use Rattle.nitro.proofs.ContainerLaws.{own-stamp, taken, own, stamp-of, stamp-taken, stamp-refused}
 use Rattle.calls.specs.Calls.{Call, check, find, on, Answer, Query, ask, reader, answer}
 use Rattle.calls.specs.Demand3.{On, Demand3}
 use Rattle.calls.proofs.CallsLaws.{find-earliest}
 
 -- what an accepted entry says of its section: the stamp's kind, and the entry read whole behind it
-record Whole (s : List ℕ) (i r : ℕ) : Type 0 where
+pub record Whole (s : List ℕ) (i r : ℕ) : Type 0 where
   kind : Kind
   held : Entry kind
   room : 4 ≤ length s
@@ -28,7 +28,7 @@ record Whole (s : List ℕ) (i r : ℕ) : Type 0 where
   read : run (entry kind i) s 4 ≡ accepted r held
   far : 4 ≤ r
 
-whole : (s : List ℕ) (i r : ℕ) (e : EntryRecord) → answer (check i) s ≡ accepted r e → Whole s i r
+pub whole : (s : List ℕ) (i r : ℕ) (e : EntryRecord) → answer (check i) s ≡ accepted r e → Whole s i r
 unfolding answer reader stamped run
 whole s i r e h =
     let w = accepted-first (stamped allKinds) (λ k. bind (entry k i) (λ x. done (recordOf k x))) s 0 r e h in
@@ -41,48 +41,51 @@ whole s i r e h =
 
 module _ (s : List ℕ) (i r : ℕ) (w : Whole s i r) where
   -- a call of another kind refuses any section with that stamp
-  other-kind : (s' : List ℕ) → 4 ≤ length s' → take 4 s' ≡ take 4 s → (k : Kind) (q : Query k) → kindOf (k ∷ []) (take 4 s) ≡ denied 1 → answer (on k i q) s' ≡ refused 1
-  unfolding answer reader entryOf after
-  other-kind s' l e k q d =
-      run-bind-as (entryOf k i) (λ x. tell (ask q x)) s' 0 (refused 1)
-      (run-bind-as (stamped (k ∷ [])) (λ _. entry k i) s' 0 (refused 1) (stamp-refused s' l k (ap (kindOf (k ∷ [])) e ∙ d)))
+  other-kind : (s' : List ℕ) → 4 ≤ length s' → take 4 s' ≡ take 4 s → (k : Kind) → kindOf (k ∷ []) (take 4 s) ≡ denied 1 → run (entryOf k i) s' 0 ≡ refused 1
+  unfolding entryOf
+  other-kind s' l e k d = stops (stamped (k ∷ [])) (λ _. entry k i) s' 0 1 (stamp-refused s' l k (ap (kindOf (k ∷ [])) e ∙ d))
 
   -- the entry, with its own stamp
   own-kind : kindOf (w .kind ∷ []) (take 4 s) ≡ answered (w .kind) → run (entryOf (w .kind) i) s 0 ≡ accepted r (w .held)
-  unfolding entryOf after
-  own-kind a = run-bind-as (stamped (w .kind ∷ [])) (λ _. entry (w .kind) i) s 0 (accepted 4 (w .kind)) (stamp-taken s (w .room) (w .kind) a) ∙ w .read
+  unfolding entryOf
+  own-kind a = goes-on (stamped (w .kind ∷ [])) (λ _. entry (w .kind) i) s 0 4 (w .kind) (stamp-taken s (w .room) (w .kind) a) ∙ w .read
 
-  module _ (k : ℕ) (t : List ℕ) where
-    front-room : r ≤ k → 4 ≤ length (front k s t)
-    front-room h = let a = w .room in let b = w .far in simp (length-append, length-take) (omega arith)
+  -- a call that takes the stamp reads it
+  pub own-read : (kd : Kind) → take 4 s ≡ stampOf kd → (e : Entry kd) × (run (entryOf kd i) s 0 ≡ accepted r e)
+  own-read kd z =
+      ⊎-elim
+      (λ (a : (w .kind ≡ kd) × (kindOf (kd ∷ []) (take 4 s) ≡ answered kd)).
+      subst (λ (x : Kind). kindOf (x ∷ []) (take 4 s) ≡ answered x → (e : Entry x) × (run (entryOf x i) s 0 ≡ accepted r e)) (a .0) (λ o. (w .held, own-kind o)) (a .1))
+      (λ (d : kindOf (kd ∷ []) (take 4 s) ≡ denied 1).
+      let o = ap (kindOf (kd ∷ [])) z ∙ own (stampOf kd) kd (own-stamp kd) in
+      let y : _≡_ {A = ℕ} 0 1 = cc in
+      absurd (omega arith))
+      (taken (take 4 s) (w .kind) kd (w .stamp))
 
-    front-stamp : r ≤ k → take 4 (front k s t) ≡ take 4 s
-    front-stamp h = let b = w .far in same-part 0 4 k s t (w .room) (omega arith)
-
-    kept-own : r ≤ k → kindOf (w .kind ∷ []) (take 4 s) ≡ answered (w .kind) → (q : Query (w .kind)) → answer (on (w .kind) i q) (front k s t) ≡ answer (on (w .kind) i q) s
-    unfolding answer reader
-    kept-own h a q = util-calls.call-kept (entryOf (w .kind) i) (ask q) s 0 r (w .held) (own-kind a) k t h
-
-    short-own : k < r → kindOf (w .kind ∷ []) (take 4 s) ≡ answered (w .kind) → (q : Query (w .kind)) → answer (on (w .kind) i q) (take k s) ≡ refused 2
-    unfolding answer reader
-    short-own h a q = util-calls.call-cut (entryOf (w .kind) i) (ask q) s 0 r (w .held) (own-kind a) k (omega arith) h
-
-    kept-on : r ≤ k → (kd : Kind) (q : Query kd) → answer (on kd i q) (front k s t) ≡ answer (on kd i q) s
-    kept-on h kd =
+  module _ (k : ℕ) where
+    -- from the reach on, what a call of some kind reads of the entry is what it reads of the uncut section, whatever follows
+    pub entry-kept : (t : List ℕ) → r ≤ k → (kd : Kind) → run (entryOf kd i) (front k s t) 0 ≡ run (entryOf kd i) s 0
+    entry-kept t h kd =
+        let b = w .far in
+        let room : 4 ≤ length (front k s t) = let a = w .room in simp (length-append, length-take) (omega arith) in
+        let stamp : take 4 (front k s t) ≡ take 4 s = same-part 0 4 k s t (w .room) (omega arith) in
         ⊎-elim
         (λ (a : (w .kind ≡ kd) × (kindOf (kd ∷ []) (take 4 s) ≡ answered kd)).
-        subst (λ (x : Kind). kindOf (x ∷ []) (take 4 s) ≡ answered x → (q : Query x) → answer (on x i q) (front k s t) ≡ answer (on x i q) s) (a .0) (kept-own h) (a .1))
-        (λ (d : kindOf (kd ∷ []) (take 4 s) ≡ denied 1) (q : Query kd).
-        other-kind (front k s t) (front-room h) (front-stamp h) kd q d ∙ sym (other-kind s (w .room) refl kd q d))
+        subst (λ (x : Kind). kindOf (x ∷ []) (take 4 s) ≡ answered x → run (entryOf x i) (front k s t) 0 ≡ run (entryOf x i) s 0) (a .0)
+        (λ o. util-cut.kept (entryOf (w .kind) i) s 0 r (w .held) (own-kind o) k t h ∙ sym (own-kind o))
+        (a .1))
+        (λ (d : kindOf (kd ∷ []) (take 4 s) ≡ denied 1). other-kind (front k s t) room stamp kd d ∙ sym (other-kind s (w .room) refl kd d))
         (taken (take 4 s) (w .kind) kd (w .stamp))
 
-    short-on : k < r → (kd : Kind) (q : Query kd) → (answer (on kd i q) s ≡ refused 1 → ⊥) → answer (on kd i q) (take k s) ≡ refused 2
-    short-on h kd =
+    -- before it the front is too short for a call that takes the stamp
+    pub entry-short : k < r → (kd : Kind) → (run (entryOf kd i) s 0 ≡ refused 1 → ⊥) → run (entryOf kd i) (take k s) 0 ≡ refused 2
+    entry-short h kd n =
         ⊎-elim
-        (λ (a : (w .kind ≡ kd) × (kindOf (kd ∷ []) (take 4 s) ≡ answered kd)) (q : Query kd) (n : answer (on kd i q) s ≡ refused 1 → ⊥).
-        subst (λ (x : Kind). kindOf (x ∷ []) (take 4 s) ≡ answered x → (q : Query x) → answer (on x i q) (take k s) ≡ refused 2) (a .0) (short-own h) (a .1) q)
-        (λ (d : kindOf (kd ∷ []) (take 4 s) ≡ denied 1) (q : Query kd) (n : answer (on kd i q) s ≡ refused 1 → ⊥).
-        absurd (n (other-kind s (w .room) refl kd q d)))
+        (λ (a : (w .kind ≡ kd) × (kindOf (kd ∷ []) (take 4 s) ≡ answered kd)).
+        subst (λ (x : Kind). kindOf (x ∷ []) (take 4 s) ≡ answered x → run (entryOf x i) (take k s) 0 ≡ refused 2) (a .0)
+        (λ o. util-cut.cut (entryOf (w .kind) i) s 0 r (w .held) (own-kind o) k (omega arith) h)
+        (a .1))
+        (λ (d : kindOf (kd ∷ []) (take 4 s) ≡ denied 1). absurd (n (other-kind s (w .room) refl kd d)))
         (taken (take 4 s) (w .kind) kd (w .stamp))
 
 -- finding reads the section's header and info block, which every entry of it has read too
@@ -128,10 +131,14 @@ demand3 s k t =
     on-kept : (i r : ℕ) (e : EntryRecord) → answer (check i) s ≡ accepted r e → r ≤ k → (c : Call) → On i c → answer c (front k s t) ≡ answer c s
     on-kept i r e h l (check j) o = subst (λ (x : ℕ). answer (check x) (front k s t) ≡ answer (check x) s) o (kept (check i) r e h l ∙ sym h)
     on-kept i r e h l (find name) o = absurd o
-    on-kept i r e h l (on kd j q) o = subst (λ (x : ℕ). answer (on kd x q) (front k s t) ≡ answer (on kd x q) s) o (kept-on s i r (whole s i r e h) k t l kd q)
+    on-kept i r e h l (on kd j q) o =
+        subst (λ (x : ℕ). answer (on kd x q) (front k s t) ≡ answer (on kd x q) s) o
+        (unfold answer reader in answered-alike (entryOf kd i) (ask q) s (front k s t) 0 (entry-kept s i r (whole s i r e h) k t l kd))
 
     on-short : (i r : ℕ) (e : EntryRecord) → answer (check i) s ≡ accepted r e → k < r → (c : Call) → On i c → (answer c s ≡ refused 1 → ⊥) → answer c (take k s) ≡ refused 2
     on-short i r e h l (check j) o n = subst (λ (x : ℕ). answer (check x) (take k s) ≡ refused 2) o (short (check i) r e h l)
     on-short i r e h l (find name) o n = absurd o
     on-short i r e h l (on kd j q) o n =
-        subst (λ (x : ℕ). (answer (on kd x q) s ≡ refused 1 → ⊥) → answer (on kd x q) (take k s) ≡ refused 2) o (short-on s i r (whole s i r e h) k t l kd q) n
+        subst (λ (x : ℕ). (answer (on kd x q) s ≡ refused 1 → ⊥) → answer (on kd x q) (take k s) ≡ refused 2) o
+        (λ n. unfold answer reader in stops _ _ (take k s) 0 2 (entry-short s i r (whole s i r e h) k l kd (λ d. n (stops _ _ s 0 1 d))))
+        n

@@ -1,4 +1,6 @@
 pub mod Demand3
+pub mod OneAnswer
+pub mod BothCut
 pub mod Finding
 pub mod Samples
 pub mod ScaleValues

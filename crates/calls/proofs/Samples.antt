@@ -19,13 +19,13 @@ use Rattle.curve.specs.Curve.{Curve, none, constant, samples, sampleCount, reco
 use Rattle.animation.specs.Animation.{Object, stillObject, axesOf, axesSamples, objectSamples, mostObjects, Triple, translation, scale}
 use Rattle.material_animation.specs.MaterialAnimation.{trackSamples}
 use Rattle.material_animation.proofs.MaterialLaws.{five-channels}
-use Rattle.pattern.specs.Pattern.{keyCount}
+use Rattle.pattern.specs.Pattern.{noTrack, keyCount}
 use Rattle.nitro.specs.Container.{Kind, jnt, srt, pat, allKinds, stamped, Entry, entry, EntryRecord, countOf, recordOf, samplesOf}
 use Rattle.nitro.proofs.ContainerLaws.{held-read}
 use Rattle.nitro.proofs.EntryLaws.{open-run}
 use Rattle.nitro.proofs.FiniteLaws.{SizedValue, entry-all, count-few, samples-few}
 use Rattle.nitro.proofs.NumberLaws.{stamped-numbered, entry-numbered}
-use Rattle.calls.specs.Calls.{ObjectQuery, ObjectReply, Query, Reply, ofObject, curve, rotationCurve, ofMaterial, channelCurve, ofPattern, keys, noTrack, askObject, askMaterial, askPattern, ask, check, on, reader, answer}
+use Rattle.calls.specs.Calls.{ObjectQuery, ObjectReply, Query, Reply, ofObject, curve, rotationCurve, ofMaterial, channelCurve, ofPattern, keys, askObject, askMaterial, askPattern, ask, check, on, reader, answer}
 use Rattle.calls.specs.Samples.{adds, lengthOf, axesLengths, objectLengths, trackLengths, keyLengths, handedOut}
 use Rattle.calls.proofs.CallsLaws.{check-stamped, entry-asked}
 

@@ -16,7 +16,7 @@ use Rattle.info_block.specs.Name.{Name, earliest}
 use Rattle.curve.specs.Curve.{Curve, none, Pair, pairAt, Recorded, recorded}
 use Rattle.animation.specs.Animation.{Object, stillObject, onAxis, Triple, Value, axesOf, sampledOf, defaultOf, matrixAt}
 use Rattle.material_animation.specs.MaterialAnimation.{uvMatrixAt}
-use Rattle.pattern.specs.Pattern.{Key, Track, choice}
+use Rattle.pattern.specs.Pattern.{Key, Track, noTrack, choice}
 use Rattle.nitro.specs.Container.{Kind, jnt, srt, pat, allKinds, stamped, section, Entry, entry, EntryRecord, recordOf, entryOf}
 use Rattle.gltf.specs.Curve.{Resampled, resample}
 
@@ -93,9 +93,6 @@ module _ {A B : Type 0} where
   -- f of item i of a list
   abbrev pub at : List A → A → ℕ → (A → Verdict B) → Verdict B
   at items default i f = given (ltb i (length items)) 9 (f (getD items i default))
-
-abbrev pub noTrack : Track
-noTrack = record { place = 0; keys = [] }
 
 -- 10 for a track with no keys
 unfoldable pub chosenOf : List Key → ℕ → Verdict Chosen

@@ -8,13 +8,14 @@ use lib.IntN.{pos, negsuc}
 use lib.ListN.{take, replicate}
 use lib.Ieee.{Float, fin, neg}
 use Rattle.util.specs.View.{littleBytes}
-use Rattle.util.specs.Reader.{Outcome, accepted, refused}
+use Rattle.util.specs.Reader.{Outcome, accepted, refused, Verdict, answered, denied}
 use Rattle.matrix.specs.Matrix.{f0, f1, col4}
 use Rattle.curve.specs.Curve.{Pair, always, listed}
 use Rattle.animation.specs.Animation.{translation, scale}
 use Rattle.nitro.specs.Container.{jnt, srt, pat, stampOf, EntryRecord}
 use Rattle.gltf.specs.Curve.{noSpan, span}
 use Rattle.calls.specs.Calls.{check, find, on, ofObject, matrix, matrixBytes, curve, scaleValue, rotationCurve, resampled, ofPattern, chosen, ofMaterial, channelCurve, answer}
+use Rattle.calls.specs.Material.{Material, noShift, joined, material}
 use Rattle.calls.specs.Evaluate.{evaluate}
 use Rattle.calls.specs.Pinned.{walk, walkName}
 
@@ -312,3 +313,68 @@ pub its-rests :
     × (answer (on srt 0 (ofMaterial 0 (channelCurve 3))) three ≡ accepted 138 (listed (record { start = 0; end = 3; place = 132; size = 2; rate = 0; rest = 0 }) 3))
 unfolding evaluate
 its-rests = (refl, refl, refl, refl)
+
+-- ---- 14. One answer per material
+
+-- a name of three letters, with a zero and these bytes behind it
+abbrev named : List ℕ → ℕ → List ℕ
+named letters leftovers = letters ++ u8 0 ++ replicate 12 leftovers
+
+abbrev sea : List ℕ
+sea = 0x73 ∷ 0x65 ∷ 0x61 ∷ []
+
+abbrev sky : List ℕ
+sky = 0x73 ∷ 0x6B ∷ 0x79 ∷ []
+
+abbrev sun : List ℕ
+sun = 0x73 ∷ 0x75 ∷ 0x6E ∷ []
+
+abbrev fog : List ℕ
+fog = 0x66 ∷ 0x6F ∷ 0x67 ∷ []
+
+abbrev ice : List ℕ
+ice = 0x69 ∷ 0x63 ∷ 0x65 ∷ []
+
+-- a track whose u and v are lists of one frame, at these offsets
+abbrev moving : ℕ → ℕ → List ℕ
+moving u v = zeros 24 ++ u16 1 ++ u8 0 ++ u8 16 ++ u32 u ++ u16 1 ++ u8 0 ++ u8 16 ++ u32 v
+
+-- sea with leftovers is shifted by 1 and -2, sky and ice are not shifted, and a later sea is shifted by -2 and 1; 316 bytes
+abbrev drift : List ℕ
+drift =
+    stampOf srt ++ u32 0 ++ block 1 4 (u32 48) (zeros 16)
+    ++ zeros 4 ++ u16 1 ++ u16 0
+    ++ block 4 40 (moving 264 266 ++ zeros 40 ++ moving 266 264 ++ zeros 40) (named sea 0xFF ++ named sky 0 ++ named sea 0 ++ named ice 0)
+    ++ u16 32 ++ u16 0xFFC0
+
+-- sky has no keys, sea with leftovers palette 1, a later sea and sun palette 0; 228 bytes
+abbrev flip : List ℕ
+flip =
+    stampOf pat ++ u32 0 ++ block 1 4 (u32 48) (zeros 16)
+    ++ zeros 4 ++ u16 10 ++ u8 1 ++ u8 2 ++ u16 148 ++ u16 148
+    ++ block 4 8 (u32 0 ++ u16 0 ++ u16 140 ++ u32 1 ++ u16 0 ++ u16 140 ++ u32 1 ++ u16 0 ++ u16 144 ++ u32 1 ++ u16 0 ++ u16 144) (named sky 0 ++ named sea 0xEE ++ named sea 0 ++ named sun 0)
+    ++ u16 3 ++ u8 0 ++ u8 1 ++ u16 3 ++ u8 0 ++ u8 0 ++ zeros 32
+
+abbrev of : List ℕ → Verdict Material
+of name = material 0 0 (named name 0) 5 drift flip
+
+-- the earliest track on each side, though a later one has all sixteen bytes of the name; a track without lists is a track; 10 before a default
+pub its-materials :
+    (of sea ≡ answered (record { shift = record { u = f1; v = fin true 1 (pos 1) }; choice = some (record { texture = 0; palette = 1 }) }))
+    × (of ice ≡ answered (record { shift = noShift; choice = none }))
+    × (of sun ≡ answered (record { shift = noShift; choice = some (record { texture = 0; palette = 0 }) }))
+    × (of sky ≡ denied 10)
+    × (of fog ≡ denied 14)
+unfolding evaluate material joined
+its-materials = (refl, refl, refl, refl, refl)
+
+-- the SRT0 section's refusals first, then the PAT0 section's, and then the name's; exchanged sections are of another stamp
+pub each-in-turn :
+    (material 0 0 (named fog 0) 5 flip drift ≡ denied 1)
+    × (material 4 0 (named fog 0) 5 drift [] ≡ denied 9)
+    × (material 0 4 (named fog 0) 5 (take 315 drift) flip ≡ denied 2)
+    × (material 0 4 (named fog 0) 5 drift flip ≡ denied 9)
+    × (material 0 0 (named fog 0) 5 drift (take 227 flip) ≡ denied 2)
+    × (material 0 0 (named fog 0) 5 (drift ++ u8 7) (flip ++ u8 7) ≡ denied 14)
+unfolding evaluate material joined
+each-in-turn = (refl, refl, refl, refl, refl, refl)

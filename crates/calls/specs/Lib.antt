@@ -1,5 +1,8 @@
 pub mod Calls
+pub mod Material
 pub mod Demand3
+pub mod OneAnswer
+pub mod BothCut
 pub mod Finding
 pub mod Samples
 pub mod ScaleValues

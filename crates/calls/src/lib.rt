@@ -1,5 +1,6 @@
 // What the public calls answer: a value, or the number of a refusal. Places count from the section's start. What each call answers to which
 // section is in specs/.
+use material_animation::Shift;
 use matrix::Mat4;
 use pattern::PaletteIdx;
 use pattern::TextureIdx;
@@ -28,5 +29,12 @@ pub enum MatrixAnswer {
 pub enum Found {
     At(usize),
     Nothing,
+    Refused(u8),
+}
+
+// A material: the shift of its texture, and its texture and palette if a pattern chooses them.
+pub enum MaterialAnswer {
+    Shifted(Shift),
+    Chosen(Shift, TextureIdx, PaletteIdx),
     Refused(u8),
 }

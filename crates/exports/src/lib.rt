@@ -3,6 +3,7 @@
 use animation::Triple;
 use calls::MatrixAnswer;
 use listing::list_section;
+use material::material;
 use matrix::put_matrix;
 use motion::check;
 use motion::find;
@@ -13,6 +14,7 @@ use words::put_choice;
 use words::put_curve;
 use words::put_found;
 use words::put_list;
+use words::put_material;
 use words::put_name;
 use words::put_record;
 use words::put_resampling;
@@ -29,8 +31,9 @@ ghost use Rattle.gltf.specs.Curve.{sliceOf};
 ghost use Rattle.nitro.specs.Container.{jnt, srt, pat};
 ghost use Rattle.calls.specs.Calls.{answer, on, ofObject, matrixBytes, curve, scaleValue, rotationCurve, resampled, ofMaterial, uvMatrix, channelCurve, materialName, ofPattern, chosen, textureNames, paletteNames, patternName, bytesAfter};
 ghost use Rattle.calls.specs.Calls as calls;
+ghost use Rattle.calls.specs.Material as material;
 ghost use Rattle.listing.specs.Listing.{listing};
-ghost use Rattle.words.specs.Words.{Writes, nameWords, checked, recordWords, curveWords, curveFloats, oneFloat, twoFloats, nineFloats, sixteenFloats, listedWords, chosenWords, resampledWords, foundWords};
+ghost use Rattle.words.specs.Words.{Writes, nameWords, checked, recordWords, curveWords, curveFloats, oneFloat, twoFloats, nineFloats, sixteenFloats, listedWords, chosenWords, shiftFloats, materialWords, resampledWords, foundWords};
 
 // Whether an entry is whole: the number of its check.
 #[no_mangle]
@@ -233,6 +236,28 @@ pub extern "C" fn motion_choice(
     ensures { λ r. ⌜ Writes chosenWords (told (answer (on pat entry (ofPattern track (chosen frame))) (now (s .entry)))) r (now (out .entry)) (now (out .exit)) ⌝ }
 {
     put_choice(pat::choice(s, entry, track, frame), out)
+}
+
+// A material of this name at a frame, from an SRT0 entry and a PAT0 entry: the shift of its texture, u and v; and 1 and the indexes of its texture and its
+// palette, or 0 if nothing chooses them.
+#[no_mangle]
+pub extern "C" fn motion_material(
+    srt: &[u8],
+    srt_entry: usize,
+    pat: &[u8],
+    pat_entry: usize,
+    name: &[u8; 16],
+    frame: u16,
+    shift: &mut [f64; 2],
+    choice: &mut [u64; 3],
+) -> u32
+    ensures { λ r. ⌜ Writes shiftFloats (material.material «srt_entry» «pat_entry» (now (name .entry)) frame (now (srt .entry)) (now (pat .entry))) r (now (shift .entry)) (now (shift .exit)) × Writes materialWords (material.material «srt_entry» «pat_entry» (now (name .entry)) frame (now (srt .entry)) (now (pat .entry))) r (now (choice .entry)) (now (choice .exit)) ⌝ }
+{
+    put_material(
+        material(srt, srt_entry, pat, pat_entry, name, frame),
+        shift,
+        choice,
+    )
 }
 
 // A JNT0 object's translation, resampled into `floats` from a place onward: 1, the start, the end and how many frames were written, or 0 for

@@ -20,10 +20,10 @@ use Rattle.info_block.specs.InfoBlockCode.{blockAt}
 pub few : (a b : ℕ) → a ≤ 64 → b ≤ 255 → a * b ≤ 64 * 255
 few a b h l = mul-le-mul h l
 
--- there is a name for each datum: the parts one by one, of which the second is the count and the last the names
-pub names-counted : (p size : ℕ) (s : List ℕ) (m j : ℕ) (b : Block) → run (infoBlock p size) s m ≡ accepted j b → length (b .names) ≡ b .count
+-- there are as many datums and as many names as it counts: the parts one by one, of which the second is the count and the last are those two
+pub lists-counted : (p size : ℕ) (s : List ℕ) (m j : ℕ) (b : Block) → run (infoBlock p size) s m ≡ accepted j b → (length (b .datums) ≡ b .count) × (length (b .names) ≡ b .count)
 unfolding run infoBlock
-names-counted p size s m j b h =
+lists-counted p size s m j b h =
     let w = accepted-first _ _ s m j b h in
     let w = accepted-first _ _ s _ j b (w .3) in
     let count : ℕ = w .1 in
@@ -34,14 +34,16 @@ names-counted p size s m j b h =
     let w = accepted-first _ _ s _ j b (w .3) in
     let w = accepted-first _ _ s _ j b (w .3) in
     let w = accepted-first _ _ s _ j b (w .3) in
-    let w = accepted-first _ _ s _ j b (w .3) in
-    let names = accepted-first _ _ s _ j b (w .3) in
+    let datums = accepted-first _ _ s _ j b (w .3) in
+    let names = accepted-first _ _ s _ j b (datums .3) in
     let w = accepted-first _ _ s _ j b (names .3) in
     let w = accepted-first _ _ s _ j b (w .3) in
     let q = done-is _ s _ j b (w .3) in
-    let v = done-is _ s _ _ _ (had-part _ _ _ _ _ (names .2) .1) in
-    let l : length (names .1) ≡ count = ap length (sym v) ∙ view-length 16 (λ bs. bs) count _ in
-    subst (λ (x : Block). length (x .names) ≡ x .count) q l
+    let d = done-is _ s _ _ _ (had-part _ _ _ _ _ (datums .2) .1) in
+    let n = done-is _ s _ _ _ (had-part _ _ _ _ _ (names .2) .1) in
+    let k : length (datums .1) ≡ count = ap length (sym d) ∙ view-length size (λ bs. bs) count _ in
+    let l : length (names .1) ≡ count = ap length (sym n) ∙ view-length 16 (λ bs. bs) count _ in
+    subst (λ (x : Block). (length (x .datums) ≡ x .count) × (length (x .names) ≡ x .count)) q (k, l)
 
 module _ (p size : ℕ) (s : List ℕ) (reach : ℕ) where
   -- where the lists stand, for a count

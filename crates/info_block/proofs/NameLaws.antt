@@ -116,3 +116,7 @@ module _ (s : List ℕ) (names count : ℕ) (name : Name) (i : ℕ) (w : NoneBel
 
   pub found-nowhere : count ≤ i → none ≡ earliest name (all s names count)
   found-nowhere h = sym (earliest-name .nothing name (all s names count) .1 (λ j n. w j (omega (arith, all-length s names count, n .0)) n))
+
+-- the one that is found is one of them
+pub found-below : (s : List ℕ) (names count : ℕ) (name : Name) (i : ℕ) → some i ≡ earliest name (all s names count) → i < count
+found-below s names count name i e = let l = earliest-name .found name (all s names count) i .0 (sym e) in omega (arith, all-length s names count, l .0 .0)

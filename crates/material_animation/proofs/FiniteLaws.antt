@@ -22,7 +22,7 @@ use Rattle.matrix.proofs.MagnitudeLaws.{translation-below, below-mat}
 use Rattle.info_block.proofs.BytesLaws.{datums-all}
 use Rattle.curve.specs.Curve.{Curve, none, sampleCount, mix, sampleAt}
 use Rattle.curve.proofs.MagnitudeLaws.{SizedCurve, count-few, scalar-sized, number-small, sized}
-use Rattle.material_animation.specs.MaterialAnimation.{MaterialAnimation, trackSamples, channelList, carries, channel, channelNumbers, channels, materialAnimation, uvMatrixAt}
+use Rattle.material_animation.specs.MaterialAnimation.{MaterialAnimation, trackSamples, channelList, carries, channel, channelNumbers, channels, materialAnimation, shiftAt, uvMatrixAt}
 use Rattle.material_animation.specs.MaterialAnimationCode.{trackAt}
 
 -- the channelNumbers channels of a track
@@ -40,7 +40,7 @@ sized-few cs h =
     omega arith
 
 pub uv-finite : (channels : List (Curve Float)) → SizedTrack channels → (frame : ℕ) → FiniteMat (uvMatrixAt channels frame)
-unfolding uvMatrixAt
+unfolding shiftAt uvMatrixAt
 uv-finite channels h frame = below-mat (translation-below (at 3) (at 4) below-zero)
   where
     at : (n : ℕ) → Mixed (sampleAt mix f0 (getD channels n none) frame)

@@ -1,3 +1,4 @@
 pub mod MaterialLaws
+pub mod FindLaws
 pub mod FiniteLaws
 pub mod NumberLaws

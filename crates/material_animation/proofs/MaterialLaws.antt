@@ -22,7 +22,6 @@ use Rattle.util.proofs.Calls.{accepted-first}
 use Rattle.util.proofs.ReadsLaws.{goes-on, stops, done-is}
 use Rattle.util.proofs.Each.{rest, next, ended, all, from-none, counted-of, uncounted-of, from-zero, each-read, items-read}
 use Rattle.util.proofs.ViewLaws.{word-part, view-take}
-use Rattle.matrix.specs.declared.Mat4.{Mat4}
 use Rattle.matrix.specs.Matrix.{f0, translation4}
 use Rattle.info_block.specs.declared.InfoBlock.{InfoBlock}
 use Rattle.info_block.specs.declared.BlockRead.{BlockRead}
@@ -31,7 +30,8 @@ use Rattle.curve.specs.Curve.{Curve, none, samples, sampleCount, mix, sampleAt,
 use Rattle.curve.specs.CurveCode.{listMeans}
 use Rattle.info_block.specs.InfoBlock.{Block, infoBlock}
 use Rattle.info_block.specs.InfoBlockCode.{blockAt, BlockReads}
-use Rattle.material_animation.specs.MaterialAnimation.{MaterialAnimation, trackSamples, carries, channelList, channel, channelNumbers, channels, materialAnimation, uvMatrixAt}
+use Rattle.info_block.proofs.InfoBlockLaws.{lists-counted}
+use Rattle.material_animation.specs.MaterialAnimation.{MaterialAnimation, trackSamples, carries, channelList, channel, channelNumbers, channels, materialAnimation, Shift, shiftAt, uvMatrixAt}
 use Rattle.material_animation.specs.MaterialAnimationCode.{trackAt, ChannelGives, TrackIs, WholeMaterial}
 
 -- ---- a channel
@@ -191,14 +191,18 @@ module _ (s : List ℕ) where
 
 -- ---- a track at a frame
 
-pub uv-at : (s : List ℕ) (track frame : ℕ) (u v : Float) → ChannelGives s track 3 (λ curve. sampleAt mix f0 curve frame) u → ChannelGives s track 4 (λ curve. sampleAt mix f0 curve frame) v
-    → (r : Mat4) → r ≡ translation4 u v f0 → (curves : List (Curve Float)) → TrackIs s track curves → r ≡ uvMatrixAt curves frame
-unfolding uvMatrixAt
-uv-at s track frame u v hu hv r e curves w =
+pub shift-at : (s : List ℕ) (track frame : ℕ) (u v : Float) → ChannelGives s track 3 (λ curve. sampleAt mix f0 curve frame) u → ChannelGives s track 4 (λ curve. sampleAt mix f0 curve frame) v
+    → (curves : List (Curve Float)) → TrackIs s track curves → record { u = u; v = v } ≡ shiftAt curves frame
+unfolding shiftAt
+shift-at s track frame u v hu hv curves w =
     let at = each-read (channel (trackAt s track)) s channelNumbers 0 (w .reach) curves (w .reads) .1 in
     let a = at 3 0 none (lit< tt) in
     let b = at 4 0 none (lit< tt) in
-    e ∙ cc (hu (a .0) (getD curves 3 none) (a .1), hv (b .0) (getD curves 4 none) (b .1))
+    cc (hu (a .0) (getD curves 3 none) (a .1), hv (b .0) (getD curves 4 none) (b .1))
+
+pub uv-at : (shift : Shift) (curves : List (Curve Float)) (frame : ℕ) → shift ≡ shiftAt curves frame → translation4 (shift .u) (shift .v) f0 ≡ uvMatrixAt curves frame
+unfolding uvMatrixAt
+uv-at shift curves frame e = ap (λ (x : Shift). translation4 (x .u) (x .v) f0) e
 
 -- each track of a whole entry: its datum stands in the section, and its channels are those of the entry
 module _ (s : List ℕ) (a : Known) (w : WholeMaterial s a) where
@@ -215,17 +219,49 @@ module _ (s : List ℕ) (a : Known) (w : WholeMaterial s a) where
   pub track-of : (i : ℕ) → i < a .block .count → TrackIs s (a .block .datums + 40 * i) (getD (w .held .tracks) i [])
   track-of i h = let k = tracks-are .1 i [] h in record { reach = k .0; reads = k .1 }
 
--- every track of an entry that is accepted has five channels
-pub five-channels : (s : List ℕ) (m j : ℕ) (v : MaterialAnimation) → run materialAnimation s m ≡ accepted j v → (t : ℕ) → t < length (v .tracks) → length (getD (v .tracks) t []) ≡ 5
-unfolding materialAnimation
-five-channels s m j v e t h =
-    let a = accepted-first (bytes 0 4) _ s m j v e in
-    let b = accepted-first (word 4 2) _ s (a .0) j v (a .3) in
-    let c = accepted-first (word 6 2) _ s (b .0) j v (b .3) in
-    let d = accepted-first (infoBlock 8 40) _ s (c .0) j v (c .3) in
-    let w = accepted-first (each channels (d .1 .datums)) _ s (d .0) j v (d .3) in
-    let q = ap (λ (x : MaterialAnimation). x .tracks) (done-is _ s (w .0) j v (w .3)) in
-    let r = each-read channels s (d .1 .datums) (d .0) (w .0) (w .1) (w .2) in
-    let l : t < length (d .1 .datums) = let x = ap length q in let y = r .0 in omega arith in
-    let k = r .1 t [] [] l in
-    ap (λ (ts : List (List (Curve Float))). length (getD ts t [])) (sym q) ∙ each-read (channel (getD (d .1 .datums) t [])) s channelNumbers 0 (k .0) _ (k .1) .0
+-- ---- an entry that is accepted
+
+-- what it was read from: its info block, and a reader of each track
+record Taken (s : List ℕ) (v : MaterialAnimation) : Type 0 where
+  block : Block
+  start : ℕ
+  end : ℕ
+  far : ℕ
+  read : run (infoBlock 8 40) s start ≡ accepted end block
+  names : v .names ≡ block .names
+  tracks : run (each channels (block .datums)) s end ≡ accepted far (v .tracks)
+
+module _ (s : List ℕ) (m j : ℕ) (v : MaterialAnimation) (e : run materialAnimation s m ≡ accepted j v) where
+  taken : Taken s v
+  unfolding materialAnimation
+  taken =
+      let a = accepted-first (bytes 0 4) _ s m j v e in
+      let b = accepted-first (word 4 2) _ s (a .0) j v (a .3) in
+      let c = accepted-first (word 6 2) _ s (b .0) j v (b .3) in
+      let d = accepted-first (infoBlock 8 40) _ s (c .0) j v (c .3) in
+      let w = accepted-first (each channels (d .1 .datums)) _ s (d .0) j v (d .3) in
+      let q = done-is _ s (w .0) j v (w .3) in
+      record {
+        block = d .1;
+        start = c .0;
+        end = d .0;
+        far = w .0;
+        read = d .2;
+        names = ap (λ (x : MaterialAnimation). x .names) (sym q);
+        tracks = w .2 ∙ ap (λ (x : MaterialAnimation). accepted (w .0) (x .tracks)) q;
+      }
+
+  -- every track has five channels
+  pub five-channels : (t : ℕ) → t < length (v .tracks) → length (getD (v .tracks) t []) ≡ 5
+  five-channels t h =
+      let w = taken in
+      let r = each-read channels s (w .block .datums) (w .end) (w .far) (v .tracks) (w .tracks) in
+      let k = r .1 t [] [] (omega (arith, r .0)) in
+      each-read (channel (getD (w .block .datums) t [])) s channelNumbers 0 (k .0) _ (k .1) .0
+
+  -- there is a track for each name
+  pub track-for-name : length (v .tracks) ≡ length (v .names)
+  track-for-name =
+      let w = taken in
+      let c = lists-counted 8 40 s (w .start) (w .end) (w .block) (w .read) in
+      each-read channels s (w .block .datums) (w .end) (w .far) (v .tracks) (w .tracks) .0 ∙ (c .0 ∙ sym (ap length (w .names) ∙ c .1))

@@ -2,6 +2,7 @@
 use Prim.Native.Nat.{ℕ, _*_}
 use mathlib.Core.Bool.{Bool, _&&_, _||_, cond}
 use mathlib.Core.List.{List, [], _∷_}
+use mathlib.Core.Option.{Option, Option·map}
 use lib.Dec.{eqb}
 use lib.ListN.{take, drop, getD}
 use lib.Ieee.{Float}
@@ -12,7 +13,7 @@ use Rattle.util.specs.Sums.{total}
 use Rattle.matrix.specs.declared.Mat4.{Mat4}
 use Rattle.matrix.specs.Matrix.{f0, translation4}
 use Rattle.curve.specs.Curve.{ListRecord, Curve, none, samples, sampleCount, numberOf, mix, sampleAt}
-use Rattle.info_block.specs.Name.{Name}
+use Rattle.info_block.specs.Name.{Name, earliest}
 use Rattle.info_block.specs.InfoBlock.{infoBlock}
 
 pub record MaterialAnimation : Type 0 where
@@ -59,6 +60,21 @@ materialAnimation = do
   tracks ← each channels (block .datums)
   done (record { frames = frames; names = block .names; tracks = tracks })
 
--- ---- MaterialTrack::eval_uv_mat: the identity, its fourth column u, v, 0, 1
+-- ---- a track at a frame
+
+-- how far a texture is shifted
+pub record Shift : Type 0 where
+  pub u : Float
+  pub v : Float
+
+-- by the channels 3 and 4; 0 where the channel has no value
+unfoldable pub shiftAt : List (Curve Float) → ℕ → Shift
+shiftAt channels frame = record { u = sampleAt mix f0 (getD channels 3 none) frame; v = sampleAt mix f0 (getD channels 4 none) frame }
+
+-- that of a name: of the earliest track whose name equals it, if there is one
+unfoldable pub shiftOf : Name → ℕ → MaterialAnimation → Option Shift
+shiftOf name frame a = Option·map (λ t. shiftAt (getD (a .tracks) t []) frame) (earliest name (a .names))
+
+-- MaterialTrack::eval_uv_mat: the identity, its fourth column u, v, 0, 1
 unfoldable pub uvMatrixAt : List (Curve Float) → ℕ → Mat4
-uvMatrixAt channels frame = translation4 (sampleAt mix f0 (getD channels 3 none) frame) (sampleAt mix f0 (getD channels 4 none) frame) f0
+uvMatrixAt channels frame = let shift = shiftAt channels frame in translation4 (shift .u) (shift .v) f0

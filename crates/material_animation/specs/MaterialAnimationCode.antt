@@ -1,6 +1,7 @@
 -- What the code of lib.rt answers: where the channels of an entry stand. Assumes nothing.
 use Prim.Native.Nat.{ℕ, _≤_}
 use mathlib.Core.List.{List}
+use mathlib.Core.Option.{Option, none, some}
 use mathlib.Core.Path.{_≡_}
 use lib.ListN.{length, take, drop}
 use lib.Ieee.{Float}
@@ -10,10 +11,12 @@ use Rattle.util.specs.Sums.{total}
 use Rattle.material_animation.specs.declared.MaterialAnimation.{MaterialAnimation as Known}
 use Rattle.material_animation.specs.declared.MatAnimRead.{MatAnimRead}
 use Rattle.material_animation.specs.declared.ChannelRead.{ChannelRead}
+use Rattle.material_animation.specs.declared.Shift.{Shift as CodeShift}
+use Rattle.material_animation.specs.declared.ShiftFound.{ShiftFound}
 use Rattle.curve.specs.Curve.{Curve}
 use Rattle.curve.specs.CurveCode.{scalarCurve, Inside}
 use Rattle.info_block.specs.InfoBlockCode.{blockAt, WholeBlock}
-use Rattle.material_animation.specs.MaterialAnimation.{MaterialAnimation, trackSamples, channel, channels, materialAnimation}
+use Rattle.material_animation.specs.MaterialAnimation.{MaterialAnimation, trackSamples, channel, channels, materialAnimation, Shift}
 
 -- the track whose datum stands at a position
 abbrev pub trackAt : List ℕ → ℕ → List ℕ
@@ -58,3 +61,12 @@ pub record WholeMaterial (s : List ℕ) (a : Known) : Type 0 where
 abbrev pub MaterialIs : List ℕ → MatAnimRead → Type 0
 MaterialIs s (MatAnimRead.Whole a) = WholeMaterial s a
 MaterialIs s (MatAnimRead.Refused n) = run materialAnimation s 0 ≡ refused n
+
+-- ---- a shift, and that of a name
+
+abbrev pub shiftMeans : CodeShift → Shift
+shiftMeans s = record { u = s .u; v = s .v }
+
+abbrev pub shiftFoundMeans : ShiftFound → Option Shift
+shiftFoundMeans (ShiftFound.At shift) = some (shiftMeans shift)
+shiftFoundMeans ShiftFound.Nothing = none

@@ -6,6 +6,8 @@ use curve::sample_count;
 use curve::sample_scalar;
 use info_block::BlockRead;
 use info_block::InfoBlock;
+use info_block::name::NameFound;
+use info_block::name::find_name;
 use matrix::Mat4;
 use matrix::from_translation;
 use util::cur::Tally;
@@ -24,8 +26,8 @@ ghost use Rattle.util.specs.ReaderCode.{tallyOf};
 ghost use Rattle.util.specs.Sums.{total};
 ghost use Rattle.util.specs.View.{view};
 ghost use Rattle.curve.specs.Curve.{Curve, mix, sampleAt};
-ghost use Rattle.material_animation.specs.MaterialAnimation.{channels, trackSamples, uvMatrixAt};
-ghost use Rattle.material_animation.specs.MaterialAnimationCode.{trackAt, ChannelReads, ChannelGives, TrackIs, MaterialIs};
+ghost use Rattle.material_animation.specs.MaterialAnimation.{channels, trackSamples, shiftAt, shiftOf, uvMatrixAt};
+ghost use Rattle.material_animation.specs.MaterialAnimationCode.{trackAt, ChannelReads, ChannelGives, TrackIs, WholeMaterial, MaterialIs, shiftMeans, shiftFoundMeans};
 
 // What is known of a whole entry: its frames, its tracks, its reach, and how many values its lists have.
 pub struct MaterialAnimation {
@@ -151,6 +153,23 @@ fn sample_channel(s: &[u8], track: usize, n: usize, frame: u16) -> f64
     }
 }
 
+// How far a texture is shifted.
+pub struct Shift {
+    pub u: f64,
+    pub v: f64,
+}
+
+// How far a track shifts it at a frame, by its channels 3 and 4.
+pub fn eval_uv_shift(s: &[u8], track: usize, frame: u16) -> Shift
+    requires { ⌜ track + 40 ≤ length (now s) ⌝ }
+    ensures { λ r. ⌜ ((curves : List (Curve Float)) → TrackIs (now (s .entry)) track curves → shiftMeans r ≡ shiftAt curves frame) ⌝ }
+{
+    Shift {
+        u: sample_channel(s, track, 3, frame),
+        v: sample_channel(s, track, 4, frame),
+    }
+}
+
 // A track's matrix at a frame: its channels 3 and 4 move the texture.
 pub fn eval_uv_mat(s: &[u8], track: usize, frame: u16) -> Mat4
     requires { ⌜ track + 40 ≤ length (now s) ⌝ }
@@ -159,4 +178,24 @@ pub fn eval_uv_mat(s: &[u8], track: usize, frame: u16) -> Mat4
     let u = sample_channel(s, track, 3, frame);
     let v = sample_channel(s, track, 4, frame);
     from_translation(u, v, 0.0)
+}
+
+// The shift of a name at a frame, or nothing if no track has that name.
+pub enum ShiftFound {
+    At(Shift),
+    Nothing,
+}
+
+// .. in an entry that is whole: that of the earliest track with this name.
+pub fn find_shift(s: &[u8], a: MaterialAnimation, name: &[u8; 16], frame: u16) -> ShiftFound
+    requires { ⌜ WholeMaterial (now s) a ⌝ }
+    ensures { λ r. ⌜ ((w : WholeMaterial (now (s .entry)) a) → shiftFoundMeans r ≡ shiftOf (now (name .entry)) frame (w .held)) ⌝ }
+{
+    let block = a.block;
+    match find_name(s, block.names, block.count, name) {
+        NameFound::Nothing => ShiftFound::Nothing,
+        NameFound::At(track) => {
+            ShiftFound::At(eval_uv_shift(s, block.datums + 40 * track, frame))
+        }
+    }
 }

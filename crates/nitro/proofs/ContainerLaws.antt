@@ -23,7 +23,7 @@ use Rattle.material_animation.specs.MaterialAnimation.{materialAnimation}
 use Rattle.pattern.specs.Pattern.{pattern}
 use Rattle.info_block.specs.InfoBlock.{Block, infoBlock}
 use Rattle.info_block.specs.InfoBlockCode.{blockAt}
-use Rattle.info_block.proofs.InfoBlockLaws.{names-counted}
+use Rattle.info_block.proofs.InfoBlockLaws.{lists-counted}
 use Rattle.nitro.specs.Container.{Kind, jnt, srt, pat, stampOf, allKinds, kindOf, stamped, section, Value, value, Entry, entryIn, entry}
 use Rattle.nitro.specs.declared.container.EntryFound.{EntryFound}
 use Rattle.nitro.specs.ContainerCode.{HeaderReads, entryFrom, EntryReads}
@@ -34,7 +34,7 @@ unfolding kindOf
 kind-like [] a b e = refl
 kind-like (k ∷ ks) a b e = rw (same-like 4 a b (stampOf k) e, kind-like ks a b e) refl
 
-own-stamp : (k : Kind) → kindOf allKinds (stampOf k) ≡ answered k
+pub own-stamp : (k : Kind) → kindOf allKinds (stampOf k) ≡ answered k
 unfolding kindOf same
 own-stamp jnt = refl
 own-stamp srt = refl
@@ -173,7 +173,7 @@ name-read k s i m j r e b q h =
 -- a section has a name for each entry
 pub section-counted : (s : List ℕ) (m j : ℕ) (b : Block) → run section s m ≡ accepted j b → length (b .names) ≡ b .count
 unfolding section
-section-counted s m j b h = let w = accepted-first _ _ s m j b h in names-counted 8 4 s (w .0) j b (w .3)
+section-counted s m j b h = let w = accepted-first _ _ s m j b h in lists-counted 8 4 s (w .0) j b (w .3) .1
 
 -- ---- what the code of container.rt finds
 

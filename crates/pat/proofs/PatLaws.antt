@@ -1,6 +1,6 @@
 -- What the calls on a PAT0 entry answer, from what is known of the entry. Assumes nothing.
 use Prim.Native.Nat.{ℕ, _+_, _*_, _≤_, _<_}
-use mathlib.Core.List.{List, [], _∷_}
+use mathlib.Core.List.{List}
 use mathlib.Core.Path.{_≡_, refl, sym, ap, _∙_}
 use native.Mathlib.Nat.{add-assoc}
 use native.Mathlib.Omega.{arith}
@@ -13,18 +13,18 @@ use Rattle.util.proofs.ViewLaws.{view-length}
 use Rattle.info_block.specs.Name.{Name, nameAmong}
 use Rattle.pattern.specs.declared.ItemList.{ItemList}
 use Rattle.pattern.specs.declared.Pattern.{Pattern}
-use Rattle.pattern.specs.Pattern.{Key, Names, Track, keyOf, choice}
+use Rattle.pattern.specs.Pattern.{Key, Names, Track, noTrack, keyOf, choice}
 use Rattle.pattern.specs.PatternCode.{ListedAt, WholePattern}
 use Rattle.pattern.proofs.PatternLaws.{track-count, datum-inside, keys-inside, track-of}
 use Rattle.nitro.specs.declared.container.EntryAt.{EntryAt}
 use Rattle.nitro.specs.Container.{pat}
 use Rattle.nitro.specs.EntryCode.{Opened}
 use Rattle.calls.specs.declared.ListAnswer.{ListAnswer}
-use Rattle.calls.specs.Calls.{Query, PatternQuery, chosen, keys, noTrack, chosenOf, askPattern, ofPattern, patternName, textureNames, paletteNames, ask, on, answer}
+use Rattle.calls.specs.Calls.{Query, PatternQuery, chosen, keys, chosenOf, askPattern, ofPattern, patternName, textureNames, paletteNames, ask, on, answer}
 use Rattle.calls.specs.AnswersCode.{listAnswerMeans}
 use Rattle.pat.specs.PatCode.{KeysAt, KeysAre}
 use Rattle.nitro.proofs.EntryLaws.{names-end}
-use Rattle.calls.proofs.CallsLaws.{asked}
+use Rattle.calls.proofs.CallsLaws.{asked, some-chosen}
 
 -- a word of what stands from an offset onward
 word-onward : (n off q : ℕ) (s : List ℕ) → wordAt n (drop off s) q ≡ wordAt n s (off + q)
@@ -41,15 +41,9 @@ pub chosen-none : (n : ℕ) (bs : List ℕ) (frame : ℕ) → n ≡ 0 → chosen
 unfolding chosenOf view
 chosen-none n bs frame e = rw e refl
 
-first-chosen : (ks : List Key) (frame : ℕ) (k : Key) → 1 ≤ length ks → ((default : Key) → k ≡ choice ks default frame)
-    → chosenOf ks frame ≡ answered (record { texture = k .texture; palette = k .palette })
-unfolding chosenOf
-first-chosen [] frame k h e = absurd (omega arith)
-first-chosen (x ∷ xs) frame k h e = λ j. answered (record { texture = sym (e x) j .texture; palette = sym (e x) j .palette })
-
 pub chosen-some : (n : ℕ) (bs : List ℕ) (frame : ℕ) (k : Key) → (n ≡ 0 → ⊥) → ((default : Key) → k ≡ choice (view 4 keyOf n bs) default frame)
     → chosenOf (view 4 keyOf n bs) frame ≡ answered (record { texture = k .texture; palette = k .palette })
-chosen-some n bs frame k h e = first-chosen (view 4 keyOf n bs) frame k (rw (view-length 4 keyOf n bs) (omega arith)) e
+chosen-some n bs frame k h e = some-chosen (view 4 keyOf n bs) frame k (rw (view-length 4 keyOf n bs) (omega arith)) e
 
 -- ---- an entry that is opened
 

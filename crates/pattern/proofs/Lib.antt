@@ -1,3 +1,4 @@
 pub mod PatternLaws
+pub mod FindLaws
 pub mod FewLaws
 pub mod NumberLaws

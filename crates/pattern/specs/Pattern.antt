@@ -2,11 +2,12 @@
 use Prim.Native.Nat.{ℕ, suc, _-_, _*_}
 use mathlib.Core.Bool.{Bool, true, _&&_, cond}
 use mathlib.Core.List.{List, [], _∷_}
+use mathlib.Core.Option.{Option, Option·map}
 use lib.Dec.{ltb}
 use lib.ListN.{length, getD}
 use Rattle.util.specs.View.{wordAt}
 use Rattle.util.specs.Reader.{Reader, done, _>>=_, _>>_, bytes, word, list, each, unless}
-use Rattle.info_block.specs.Name.{Name}
+use Rattle.info_block.specs.Name.{Name, earliest}
 use Rattle.info_block.specs.InfoBlock.{infoBlock}
 
 -- frame u16, texture u8, palette u8: indexes of the texture names and of the palette names
@@ -18,6 +19,9 @@ pub record Key : Type 0 where
 pub record Track : Type 0 where
   pub place : ℕ
   pub keys : List Key
+
+abbrev pub noTrack : Track
+noTrack = record { place = 0; keys = [] }
 
 -- how many keys it has
 abbrev pub keyCount : Track → ℕ
@@ -81,3 +85,8 @@ firstLater (k ∷ ks) frame = cond (ltb frame (k .frame)) 0 (suc (firstLater ks 
 -- The key before that one; key 0 if that one is first (0 - 1 is 0), the last key if none is later. Keys may be unsorted.
 unfoldable pub choice : List Key → Key → ℕ → Key
 choice keys default frame = getD keys (firstLater keys frame - 1) default
+
+-- ---- a name's keys: those of the earliest track whose name equals it, if there is one
+
+unfoldable pub keysOf : Name → Pattern → Option (List Key)
+keysOf name a = Option·map (λ t. getD (a .tracks) t noTrack .keys) (earliest name (a .names))

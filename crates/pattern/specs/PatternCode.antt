@@ -1,6 +1,7 @@
 -- What the code of lib.rt answers: where the lists of an entry stand. Assumes nothing.
 use Prim.Native.Nat.{ℕ, _+_, _*_, _^_, _≤_, _<_}
-use mathlib.Core.List.{List}
+use mathlib.Core.List.{List, []}
+use mathlib.Core.Option.{Option, none, some}
 use mathlib.Core.Path.{_≡_}
 use lib.ListN.{length}
 use Rattle.util.specs.View.{wordAt}
@@ -10,8 +11,9 @@ use Rattle.pattern.specs.declared.ItemList.{ItemList}
 use Rattle.pattern.specs.declared.Pattern.{Pattern as Known}
 use Rattle.pattern.specs.declared.PatternKeyframe.{PatternKeyframe}
 use Rattle.pattern.specs.declared.PatternRead.{PatternRead}
+use Rattle.pattern.specs.declared.KeyFound.{KeyFound}
 use Rattle.info_block.specs.InfoBlockCode.{blockAt, WholeBlock}
-use Rattle.pattern.specs.Pattern.{Key, keyCount, Names, Pattern, track, pattern}
+use Rattle.pattern.specs.Pattern.{Key, keyCount, Names, Pattern, track, pattern, choice}
 
 abbrev pub keyMeans : PatternKeyframe → Key
 keyMeans k = record { frame = k .frame; texture = k .«texture_idx» .0; palette = k .«palette_idx» .0 }
@@ -44,3 +46,17 @@ pub record WholePattern (s : List ℕ) (a : Known) : Type 0 where
 abbrev pub PatternIs : List ℕ → PatternRead → Type 0
 PatternIs s (PatternRead.Whole a) = WholePattern s a
 PatternIs s (PatternRead.Refused n) = run pattern s 0 ≡ refused n
+
+-- ---- what a name's track chooses at a frame, from its keys
+
+-- the key that holds at a frame: there are keys, and it is their choice
+pub record Holds (keys : Option (List Key)) (frame : ℕ) (k : PatternKeyframe) : Type 0 where
+  pub all : List Key
+  pub there : keys ≡ some all
+  pub some-key : 1 ≤ length all
+  pub chosen : (default : Key) → keyMeans k ≡ choice all default frame
+
+abbrev pub KeyIs : Option (List Key) → ℕ → KeyFound → Type 0
+KeyIs keys frame (KeyFound.At k) = Holds keys frame k
+KeyIs keys frame KeyFound.Empty = keys ≡ some []
+KeyIs keys frame KeyFound.Nothing = keys ≡ none

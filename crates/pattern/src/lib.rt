@@ -1,6 +1,8 @@
 // A PAT0 entry: pattern animations. A slice that is read here starts at the entry.
 use info_block::BlockRead;
 use info_block::InfoBlock;
+use info_block::name::NameFound;
+use info_block::name::find_name;
 use info_block::read;
 use util::cur::Tally;
 use util::cur::greater;
@@ -14,8 +16,8 @@ ghost use Rattle.util.specs.View.{view};
 ghost use Rattle.util.specs.Reader.{run, each};
 ghost use Rattle.util.specs.ReaderCode.{tallyOf};
 ghost use Rattle.util.specs.Sums.{total};
-ghost use Rattle.pattern.specs.Pattern.{Key, keyCount, keyOf, inside, track, firstLater, choice};
-ghost use Rattle.pattern.specs.PatternCode.{keyMeans, ListedAt, PatternIs};
+ghost use Rattle.pattern.specs.Pattern.{Key, keyCount, keyOf, inside, track, firstLater, choice, keysOf};
+ghost use Rattle.pattern.specs.PatternCode.{keyMeans, ListedAt, WholePattern, PatternIs, KeyIs};
 
 // An index of the texture names.
 pub struct TextureIdx(pub u8);
@@ -224,4 +226,29 @@ pub fn sample(s: &[u8], place: usize, count: usize, frame: u16) -> PatternKeyfra
         return key_at(s, place, 0);
     }
     key_at(s, place, later - 1)
+}
+
+// What a name chooses at a frame: the key that holds, nothing if no track has that name, and if its track has no keys it is empty.
+pub enum KeyFound {
+    At(PatternKeyframe),
+    Empty,
+    Nothing,
+}
+
+// .. in an entry that is whole: by the earliest track with this name.
+pub fn find_key(s: &[u8], a: Pattern, name: &[u8; 16], frame: u16) -> KeyFound
+    requires { ⌜ WholePattern (now s) a ⌝ }
+    ensures { λ r. ⌜ ((w : WholePattern (now (s .entry)) a) → KeyIs (keysOf (now (name .entry)) (w .held)) frame r) ⌝ }
+{
+    let block = a.block;
+    match find_name(s, block.names, block.count, name) {
+        NameFound::Nothing => KeyFound::Nothing,
+        NameFound::At(t) => {
+            let keys = read_track_keys(s, block.datums + 8 * t);
+            if keys.count == 0 {
+                return KeyFound::Empty;
+            }
+            KeyFound::At(sample(s, keys.place, keys.count, frame))
+        }
+    }
 }

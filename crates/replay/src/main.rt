@@ -3,7 +3,8 @@
 //
 // The list is how many calls there are, in two bytes; each call in 33 bytes: its code, entry, object or track in two bytes, axis or channel,
 // the frame in two bytes, the place (or a value's index) and the room of a lent slice, a name of sixteen bytes, the section's place in the
-// list and its length, four bytes each; and then the sections.
+// list and its length, four bytes each; and then the sections. A material's two sections stand as one, with the length of the first in the
+// place of an object or track and the entry of the second in that of an axis or channel.
 mod print;
 mod stored;
 

@@ -5,6 +5,7 @@ use exports::motion_check;
 use exports::motion_choice;
 use exports::motion_find;
 use exports::motion_keys;
+use exports::motion_material;
 use exports::motion_material_name;
 use exports::motion_matrix;
 use exports::motion_palette_names;
@@ -218,6 +219,33 @@ fn run_matrix(s: &[u8], c: Call) {
     print_matrix(n, &out);
 }
 
+// A material of two sections, one behind the other: `index` is the length of the first, `part` the entry of the second.
+fn material(both: &[u8], c: Call, shift: &mut [f64; 2], choice: &mut [u64; 3]) -> u32 {
+    let name = c.name;
+    let at = at_most(c.index, both.len());
+    motion_material(
+        &both[0..at],
+        c.entry,
+        &both[at..],
+        c.part,
+        &name,
+        c.frame,
+        shift,
+        choice,
+    )
+}
+
+fn print_material(n: u32, shift: &[f64; 2], choice: &[u64; 3]) {
+    print(n, choice, shift, &[]);
+}
+
+fn run_material(both: &[u8], c: Call) {
+    let mut shift = [FLOAT; 2];
+    let mut choice = [WORD; 3];
+    let n = material(both, c, &mut shift, &mut choice);
+    print_material(n, &shift, &choice);
+}
+
 // The call that 25 bytes stand for, on a section.
 pub fn run(s: &[u8], call: &[u8])
     requires { ⌜ 25 ≤ length (now call) ⌝ }
@@ -234,6 +262,7 @@ pub fn run(s: &[u8], call: &[u8])
         15 => run_matrix(s, c),
         16 => print(motion_check(s, c.entry), &[], &[], &[]),
         17 => run_scale_value(s, c),
+        18 => run_material(s, c),
         _ => run_two(s, c),
     }
 }

@@ -1,6 +1,6 @@
 -- A call reads, and then says something of what it read, without reading more: what a cut leaves of the first, it leaves of the call.
 -- Assumes nothing.
-use Prim.Native.Nat.{ℕ, _+_, max, _≤_, _<_}
+use Prim.Native.Nat.{ℕ, _+_, max}
 use mathlib.Core.Bool.{Bool, true, false}
 use mathlib.Core.List.{List}
 use mathlib.Core.Path.{_≡_, refl, sym, ap, _∙_}
@@ -8,8 +8,6 @@ use native.Mathlib.Omega.{arith}
 use lib.Dec.{leb}
 use lib.ListN.{length, take, drop}
 use Rattle.util.specs.Reader.{Reader, done, refuse, part, Outcome, accepted, refused, pick, ends, run, bind, Verdict, answered, denied, tell}
-use Rattle.util.specs.Place.{front}
-use Rattle.util.proofs.Cut.{kept, cut}
 
 module _ {A B : Type 0} where
   -- the rest of a run, on what the first reader found
@@ -53,16 +51,12 @@ module _ {B : Type 0} where
   silent (answered b) s s' m = refl
   silent (denied n) s s' m = refl
 
-module _ {A B : Type 0} (r : Reader A) (f : A → Verdict B) (s : List ℕ) (m reach : ℕ) (a : A) (whole : run r s m ≡ accepted reach a) where
-  -- from the reach on the call answers, or refuses, as on the uncut section
-  pub call-kept : (k : ℕ) (t : List ℕ) → reach ≤ k → run (bind r (λ x. tell (f x))) (front k s t) m ≡ run (bind r (λ x. tell (f x))) s m
+module _ {A B : Type 0} (r : Reader A) (f : A → Verdict B) where
+  -- what is read alike is answered alike, or refused alike
+  pub answered-alike : (s s' : List ℕ) (m : ℕ) → run r s' m ≡ run r s m → run (bind r (λ x. tell (f x))) s' m ≡ run (bind r (λ x. tell (f x))) s m
   unfolding after
-  call-kept k t h =
-      run-bind-as r (λ x. tell (f x)) (front k s t) m (accepted reach a) (kept r s m reach a whole k t h)
-      ∙ (silent (f a) (front k s t) s reach
-      ∙ sym (run-bind-as r (λ x. tell (f x)) s m (accepted reach a) whole))
-
-  -- before it the front is too short for the call too
-  pub call-cut : (k : ℕ) → m ≤ k → k < reach → run (bind r (λ x. tell (f x))) (take k s) m ≡ refused 2
-  unfolding after
-  call-cut k l h = run-bind-as r (λ x. tell (f x)) (take k s) m (refused 2) (cut r s m reach a whole k l h)
+  answered-alike s s' m e = run-bind-as r (λ x. tell (f x)) s' m (run r s m) e ∙ (go (run r s m) ∙ sym (run-bind r (λ x. tell (f x)) s m))
+    where
+      go : (o : Outcome A) → after o (λ j a. run (tell (f a)) s' j) ≡ after o (λ j a. run (tell (f a)) s j)
+      go (accepted j a) = silent (f a) s' s j
+      go (refused n) = refl

@@ -104,3 +104,9 @@ module _ {A : Type 0} where
   abbrev pub number : Verdict A → ℕ
   number (answered a) = 0
   number (denied n) = n
+
+module _ {A B : Type 0} where
+  -- what is said of an answer; a refusal stays
+  abbrev pub andThen : Verdict A → (A → Verdict B) → Verdict B
+  andThen (answered a) f = f a
+  andThen (denied n) f = denied n

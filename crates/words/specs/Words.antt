@@ -14,6 +14,7 @@ use Rattle.curve.specs.Curve.{Pair, Recorded, noCurve, always, listed}
 use Rattle.nitro.specs.Container.{EntryRecord}
 use Rattle.gltf.specs.Curve.{Span, noSpan, span, Resampled}
 use Rattle.calls.specs.Calls.{Listed, Chosen}
+use Rattle.calls.specs.Material.{Material}
 
 -- ---- what a call leaves in an array that it is lent: the items of its answer, from the array's start on; the old contents where it refuses
 
@@ -75,6 +76,18 @@ listedWords l = l .place ∷ l .length ∷ []
 -- a texture's and a palette's index
 abbrev pub chosenWords : Chosen → List ℕ
 chosenWords c = c .texture ∷ c .palette ∷ []
+
+-- the shift of a material's texture
+abbrev pub shiftFloats : Material → List Float
+shiftFloats m = m .shift .u ∷ m .shift .v ∷ []
+
+-- whether a texture and a palette are chosen for it, and their indexes
+abbrev pub choiceWords : Option Chosen → List ℕ
+choiceWords none = 0 ∷ []
+choiceWords (some c) = 1 ∷ c .texture ∷ c .palette ∷ []
+
+abbrev pub materialWords : Material → List ℕ
+materialWords m = choiceWords (m .choice)
 
 -- whether there was anything to resample, its start and end, and how many frames were written
 abbrev pub spanWords : Span → ℕ → List ℕ

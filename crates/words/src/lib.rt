@@ -2,6 +2,7 @@
 use calls::ChoiceAnswer;
 use calls::Found;
 use calls::ListAnswer;
+use calls::MaterialAnswer;
 use calls::MatrixAnswer;
 use curve::ListRecord;
 use curve::Pair;
@@ -10,6 +11,7 @@ use curve::PairRecord;
 use curve::ScalarRecord;
 use gltf::Resampling;
 use info_block::name::NameAnswer;
+use material_animation::Shift;
 use matrix::Mat3;
 use nitro::entry::EntryCheck;
 use trs::CurveRecord;
@@ -17,7 +19,7 @@ use trs::RotationAnswer;
 use trs::RotationRecord;
 use trs::ScaleRecord;
 ghost use mathlib.Core.Path.{_≡_};
-ghost use mathlib.Core.List.{List};
+ghost use mathlib.Core.List.{List, [], _∷_};
 ghost use lib.Ieee.{Float};
 ghost use lib.Seq.{sets};
 ghost use Rattle.curve.specs.Curve.{listed};
@@ -26,8 +28,8 @@ ghost use Rattle.info_block.specs.NameCode.{nameAnswerMeans};
 ghost use Rattle.trs.specs.TrsCode.{curveMeans, scaleMeans, rotationRecordMeans, rotationAnswerMeans};
 ghost use Rattle.nitro.specs.EntryCode.{checkMeans};
 ghost use Rattle.gltf.specs.CurveCode.{resamplingMeans};
-ghost use Rattle.calls.specs.AnswersCode.{listAnswerMeans, choiceAnswerMeans, matrixAnswerMeans, foundMeans};
-ghost use Rattle.words.specs.Words.{Writes, nameWords, checked, recordWords, curveWords, curveFloats, oneFloat, twoFloats, nineFloats, sixteenFloats, listedWords, chosenWords, resampledWords, foundWords};
+ghost use Rattle.calls.specs.AnswersCode.{listAnswerMeans, choiceAnswerMeans, matrixAnswerMeans, foundMeans, materialAnswerMeans};
+ghost use Rattle.words.specs.Words.{Writes, nameWords, checked, recordWords, curveWords, curveFloats, oneFloat, twoFloats, nineFloats, sixteenFloats, listedWords, chosenWords, shiftFloats, materialWords, resampledWords, foundWords};
 
 // The words that a curve's record may take.
 pub const CURVE_WORDS: usize = 8;
@@ -270,6 +272,35 @@ pub fn put_choice(a: ChoiceAnswer, out: &mut [u64; 2]) -> u32
         ChoiceAnswer::Chosen(texture, palette) => {
             out[0] = texture.0 as u64;
             out[1] = palette.0 as u64;
+            0
+        }
+    }
+}
+
+// How far a texture is shifted.
+fn put_shift(m: Shift, out: &mut [f64; 2])
+    ensures { λ _. ⌜ now (out .exit) ≡ sets (now (out .entry)) 0 (m .u ∷ m .v ∷ []) ⌝ }
+{
+    out[0] = m.u;
+    out[1] = m.v;
+}
+
+// A material: its shift, and the texture and the palette that are chosen, if they are.
+pub fn put_material(a: MaterialAnswer, shift: &mut [f64; 2], choice: &mut [u64; 3]) -> u32
+    ensures { λ r. ⌜ Writes shiftFloats (materialAnswerMeans a) r (now (shift .entry)) (now (shift .exit)) × Writes materialWords (materialAnswerMeans a) r (now (choice .entry)) (now (choice .exit)) ⌝ }
+{
+    match a {
+        MaterialAnswer::Refused(n) => n as u32,
+        MaterialAnswer::Shifted(m) => {
+            put_shift(m, shift);
+            choice[0] = 0;
+            0
+        }
+        MaterialAnswer::Chosen(m, texture, palette) => {
+            put_shift(m, shift);
+            choice[0] = 1;
+            choice[1] = texture.0 as u64;
+            choice[2] = palette.0 as u64;
             0
         }
     }

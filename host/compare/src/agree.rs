@@ -23,6 +23,11 @@ pub struct Counts {
     pub names: usize,
     pub matrices: usize,
     pub choices: usize,
+    /// Answers for a material, and cuts of two sections.
+    pub materials: usize,
+    pub material_cuts: usize,
+    /// Materials refused with each number.
+    pub no_material: [usize; 15],
     pub curves: usize,
     /// Values of scales, both numbers of each.
     pub pairs: usize,

@@ -3,6 +3,7 @@ pub mod agree;
 pub mod cuts;
 pub mod fill;
 pub mod layout;
+pub mod materials;
 pub mod oracle;
 pub mod replay;
 pub mod rng;

@@ -2,7 +2,7 @@
 //! compare --store DIR: writes the list that crates/replay runs, DIR/stdin, and the Rust's answers, DIR/stdout.
 use compare::agree::{self, Agreed, Counts};
 use compare::rng::Rng;
-use compare::{cuts, replay, sections};
+use compare::{cuts, materials, replay, sections};
 use std::io::Write;
 use std::panic::{catch_unwind, AssertUnwindSafe};
 
@@ -27,16 +27,34 @@ impl Run {
         self.held("cuts", s, agreed);
     }
 
+    /// Two sections together.
+    fn pair(&mut self, what: &str, srt: &[u8], pat: &[u8]) {
+        let agreed = caught(|| materials::sections(srt, pat, &mut self.rng, &mut self.counts));
+        self.held_pair(what, srt, pat, agreed);
+    }
+
+    fn pair_cuts(&mut self, srt: &[u8], pat: &[u8]) {
+        let agreed = caught(|| materials::cuts(srt, pat, &mut self.rng, &mut self.counts));
+        self.held_pair("cuts of two sections", srt, pat, agreed);
+    }
+
+    fn held_pair(&self, what: &str, srt: &[u8], pat: &[u8], agreed: Agreed) {
+        self.held(what, srt, agreed.map_err(|m| format!("{m}\nwith the PAT0 section {}", hex(pat))));
+    }
+
     fn held(&self, what: &str, s: &[u8], agreed: Agreed) {
         if let Err(message) = agreed {
-            // the long ones are the same in every run
-            let section = match s.len() {
-                0..=65_536 => s.iter().map(|b| format!("{b:02x}")).collect(),
-                n => format!("of {n} bytes"),
-            };
-            println!("\nmismatch in the {what}, seed {}\n{message}\nsection {section}", self.seed);
+            println!("\nmismatch in the {what}, seed {}\n{message}\nsection {}", self.seed, hex(s));
             std::process::exit(1);
         }
+    }
+}
+
+/// The bytes of a section; the long ones are the same in every run.
+fn hex(s: &[u8]) -> String {
+    match s.len() {
+        0..=65_536 => s.iter().map(|b| format!("{b:02x}")).collect(),
+        n => format!("of {n} bytes"),
     }
 }
 
@@ -51,6 +69,12 @@ fn caught(compare: impl FnOnce() -> Agreed) -> Agreed {
 fn progress(c: &Counts) {
     eprint!("\r{} sections, {} cuts ", c.sections, c.cuts);
     let _ = std::io::stderr().flush();
+}
+
+/// How many there are of each number.
+fn by_number(refused: &[usize]) -> String {
+    let some = refused.iter().enumerate().filter(|(_, &count)| count > 0);
+    some.map(|(n, count)| format!("{n}: {count}")).collect::<Vec<_>>().join(", ")
 }
 
 fn number(argument: Option<String>, default: usize) -> usize {
@@ -165,6 +189,25 @@ fn main() {
         run.section("crowd scenes", &s);
         run.cuts(&s);
     }
+    // materials: tracks by their names, refused sections, two sections from the seed, and some of them cut at every byte
+    for (srt, pat) in sections::pairs() {
+        run.pair("names of tracks", &srt, &pat);
+        run.pair("names of tracks", &pat, &srt);
+    }
+    for (srt, pat) in sections::refused_pairs() {
+        run.pair("two refused sections", &srt, &pat);
+    }
+    for (srt, pat) in &sections::pairs()[2..9] {
+        run.pair_cuts(srt, pat);
+    }
+    for k in 0..sections / 10 {
+        let (srt, pat) = sections::pair(&mut run.rng);
+        run.pair("two sections from the seed", &srt, &pat);
+        if k % 500 == 0 {
+            run.pair_cuts(&srt, &pat);
+            progress(&run.counts);
+        }
+    }
     // the longest lists there are
     for s in [sections::walk_cycle(1, 4095), sections::scroll(1, 65535)] {
         run.section("longest lists", &s);
@@ -172,9 +215,9 @@ fn main() {
     let c = &run.counts;
     eprintln!();
     println!(
-        "agreed: {} sections, {} entries ({} accepted), {} names looked for, {} matrices, {} choices, {} curves, {} scale values, {} resampled lists, {} cuts",
-        c.sections, c.entries, c.accepted, c.names, c.matrices, c.choices, c.curves, c.pairs, c.resampled, c.cuts
+        "agreed: {} sections, {} entries ({} accepted), {} names looked for, {} matrices, {} choices, {} curves, {} scale values, {} resampled lists, {} cuts, {} materials, {} cuts of two sections",
+        c.sections, c.entries, c.accepted, c.names, c.matrices, c.choices, c.curves, c.pairs, c.resampled, c.cuts, c.materials, c.material_cuts
     );
-    let refused: Vec<_> = (1..14).filter(|&n| c.refused[n] > 0).map(|n| format!("{n}: {}", c.refused[n])).collect();
-    println!("sections and entries refused with each number: {}", refused.join(", "));
+    println!("sections and entries refused with each number: {}", by_number(&c.refused));
+    println!("materials refused with each number: {}", by_number(&c.no_material));
 }

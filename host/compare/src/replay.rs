@@ -2,10 +2,12 @@
 //!
 //! The list is how many calls there are, in two bytes; each call in 33 bytes: its code, entry, object or track in two bytes, axis or channel,
 //! the frame in two bytes, the place (or a value's index) and the room of a lent slice, a name of sixteen bytes, the section's place in the
-//! list and its length, four bytes each; and then the sections. An answer is a line: the number, then every word and every float's bits that the call was
+//! list and its length, four bytes each; and then the sections. A material's two sections stand as one, with the length of the first in the place
+//! of an object or track and the entry of the second in that of an axis or channel. An answer is a line: the number, then every word and every float's bits that the call was
 //! lent, as they stand afterwards, in sixteen hex digits, and every byte in two. Where the Rust's answer is one of the intended differences
 //! (9 to 12), document 01's number stands; the second number of a scale's value, which the Rust drops, is read from the bytes by the layout.
 use crate::layout;
+use crate::materials::Pair;
 use crate::oracle::{self, Entry, Value};
 use crate::rng::Rng;
 use crate::sections;
@@ -44,6 +46,7 @@ const RESAMPLE_SCALE: u8 = 14;
 const MATRIX: u8 = 15;
 const CHECK: u8 = 16;
 const SCALE_VALUE: u8 = 17;
+const MATERIAL: u8 = 18;
 
 /// What stands in the words and floats before a call, and in the bytes. No answer is such a word or float.
 const FILL: u64 = 0x5555_5555_5555_5555;
@@ -92,6 +95,7 @@ impl Call {
             RESAMPLE_TRANSLATION | RESAMPLE_SCALE => (4, 40, 0),
             MATRIX => (0, 0, 140),
             CHECK => (0, 0, 0),
+            MATERIAL => (3, 2, 0),
             _ => (2, 0, 0),
         };
         Lent { words: vec![FILL; words], floats: vec![FILL; floats], bytes: vec![BYTE; bytes] }
@@ -137,8 +141,23 @@ fn reach(s: &[u8], entry: usize) -> u64 {
     (0..=s.len()).find(|&k| accepts(k)).unwrap() as u64
 }
 
+/// The material of two sections, one behind the other.
+fn put_material(s: &[u8], call: &Call, lent: &mut Lent) -> Result<(), u32> {
+    let (srt, pat) = s.split_at(call.index as usize);
+    let (shift, choice) = Pair::new(srt, call.entry as usize, pat, call.part as usize).expected(&call.name, call.frame)?;
+    put(&mut lent.floats, &shift);
+    match choice {
+        Some((texture, palette)) => put(&mut lent.words, &[1, texture as u64, palette as u64]),
+        None => put(&mut lent.words, &[0]),
+    }
+    Ok(())
+}
+
 /// What the Rust answers, and leaves in what is lent.
 fn answer(s: &[u8], call: &Call, lent: &mut Lent) -> Result<(), u32> {
+    if call.code == MATERIAL {
+        return put_material(s, call, lent);
+    }
     let entries = oracle::read(s);
     if let Some(stamp) = call.stamp() {
         if s.len() >= 4 && &s[..4] != stamp {
@@ -345,6 +364,28 @@ pub fn stored(sections: usize) -> (Vec<u8>, String) {
     for s in sections::rated() {
         let calls = [TRANSLATION, ROTATION, SCALE].map(|code| Call { code, ..Call::default() }).to_vec();
         kept.push((s, calls));
+    }
+    // materials: tracks by their names, and two sections from numbers of their own, of which most are whole
+    let own = &mut Rng::new(8);
+    let mut pairs = sections::pairs()[2..9].to_vec();
+    while pairs.len() < 31 {
+        let (srt, pat) = sections::pair(own);
+        if srt.len() + pat.len() <= 560 && (pairs.len() % 4 == 0 || Pair::new(&srt, 0, &pat, 0).whole()) {
+            pairs.push((srt, pat));
+        }
+    }
+    for (srt, pat) in pairs {
+        let names = Pair::new(&srt, 0, &pat, 0).names();
+        let calls = [(); 5].map(|_| Call {
+            code: MATERIAL,
+            entry: own.once_in(15) as u8,
+            index: srt.len() as u16,
+            part: own.once_in(15) as u8,
+            frame: own.below(6) as u16,
+            name: own.pick(&names),
+            ..Call::default()
+        });
+        kept.push(([srt, pat].concat(), calls.to_vec()));
     }
     let count: usize = kept.iter().map(|(_, calls)| calls.len()).sum();
     let (mut list, mut behind, mut lines) = ((count as u16).to_le_bytes().to_vec(), Vec::new(), String::new());

@@ -373,6 +373,106 @@ fn pattern(rng: &mut Rng) -> Vec<u8> {
     e
 }
 
+// ---- SRT0 and PAT0 together
+
+/// An SRT0 and a PAT0 section, each whole or damaged, and sometimes in the other's place.
+pub fn pair(rng: &mut Rng) -> (Vec<u8>, Vec<u8>) {
+    let mut side = |stamp: &[u8; 4], entry: fn(&mut Rng) -> Vec<u8>| {
+        let n = 1 + rng.below(3);
+        let entries: Vec<_> = (0..n).map(|_| entry(rng)).collect();
+        let mut s = section(stamp, &entries, rng);
+        if rng.once_in(3) {
+            damage(&mut s, rng);
+        }
+        s
+    };
+    let (srt, pat) = (side(b"SRT0", material), side(b"PAT0", pattern));
+    match rng.below(40) {
+        0 => (pat, srt),
+        1 => (any(rng), pat),
+        2 => (srt, any(rng)),
+        _ => (srt, pat),
+    }
+}
+
+/// An SRT0 and a PAT0 section of one entry, with tracks of these names. Of four tracks the last carries no list, and of three the last has no
+/// keys; each of the others has values of its own.
+fn with_tracks(srt: &[[u8; 16]], pat: &[[u8; 16]]) -> (Vec<u8>, Vec<u8>) {
+    let mut data = Vec::new();
+    let head = 8 + 12 + 4 + srt.len() * (4 + 40 + 16);
+    for t in 0..srt.len() {
+        let mut d = vec![0; 24];
+        for channel in 0..2 {
+            put16(&mut d, 2);
+            d.extend([0, if t % 4 == 3 { 0 } else { 16 }]);
+            put32(&mut d, head + 4 * t + 2 * channel);
+        }
+        data.push(d);
+    }
+    let mut e = vec![0; 6];
+    put16(&mut e, 0);
+    info_block(&mut e, 40, &data, srt);
+    (0..2 * srt.len() + 2).for_each(|k| put16(&mut e, 40 * k + 1));
+    let srt = section(b"SRT0", &[e], &mut Rng::new(1));
+
+    let mut data = Vec::new();
+    let head = 12 + 12 + 4 + pat.len() * (4 + 8 + 16);
+    for t in 0..pat.len() {
+        let mut d = Vec::new();
+        put32(&mut d, if t % 3 == 2 { 0 } else { 2 });
+        put16(&mut d, 0);
+        put16(&mut d, head + 8 * t);
+        data.push(d);
+    }
+    let mut e = vec![0; 6];
+    // a texture and a palette for each key; their names stand anywhere
+    let choices = 2 * pat.len();
+    e.extend([choices as u8, choices as u8, 0, 0, 0, 0]);
+    info_block(&mut e, 8, &data, pat);
+    for t in 0..pat.len() {
+        for k in 0..2 {
+            put16(&mut e, 4 * k);
+            e.extend([(2 * t + k) as u8, (choices - 1 - 2 * t - k) as u8]);
+        }
+    }
+    e.resize(e.len().max(16 * choices), 0xee);
+    (srt, section(b"PAT0", &[e], &mut Rng::new(1)))
+}
+
+/// Tracks by their names: that end at each of the sixteen places, the shortest first on one side and the longest on the other; that are equal by
+/// their fronts alone, the first with keys and without; that stand on one side; and none.
+pub fn pairs() -> Vec<(Vec<u8>, Vec<u8>)> {
+    let rising: Vec<_> = (0..=16).map(|n| ended(n, b'q')).collect();
+    let falling: Vec<_> = (0..=16).rev().map(|n| ended(n, 0xff)).collect();
+    let turn = |leftovers| ended(4, leftovers);
+    let other = |leftovers| ended(5, leftovers);
+    vec![
+        with_tracks(&rising, &falling),
+        with_tracks(&falling, &rising),
+        with_tracks(&[turn(1), turn(0)], &[turn(2), turn(0)]),
+        with_tracks(&[other(0), turn(1), turn(0), other(1)], &[other(1), other(0), turn(1), turn(0)]),
+        with_tracks(&[other(0), other(1), other(2), turn(1), turn(0)], &[turn(1), other(0)]),
+        with_tracks(&[turn(0)], &[other(0)]),
+        with_tracks(&[other(0), turn(0)], &[]),
+        with_tracks(&[], &[turn(0)]),
+        with_tracks(&[], &[]),
+        with_tracks(&(0..127).map(other).chain([turn(0)]).collect::<Vec<_>>(), &(0..63).map(turn).chain([other(0)]).collect::<Vec<_>>()),
+    ]
+}
+
+/// An SRT0 and a PAT0 section with a track of one name, each as it is and refused with 1 to 4: every one of the one with every one of the other.
+pub fn refused_pairs() -> Vec<(Vec<u8>, Vec<u8>)> {
+    let (srt, pat) = with_tracks(&[ended(4, 0)], &[ended(4, 0)]);
+    let damaged = |s: &[u8]| {
+        // the stamp, the info block's first byte, and the size of its datums
+        let mut found: Vec<_> = [0, 8, 24].map(|at| [&s[..at], &[7], &s[at + 1..]].concat()).to_vec();
+        found.extend([s.to_vec(), s[..40].to_vec()]);
+        found
+    };
+    let patterns = damaged(&pat);
+    damaged(&srt).into_iter().flat_map(|srt| patterns.iter().map(move |pat| (srt.clone(), pat.clone())).collect::<Vec<_>>()).collect()
+}
+
 // ---- whole sections, and damage
 
 /// A section as it should be, of a kind that the numbers choose.
@@ -586,6 +686,13 @@ pub fn walk_cycle(objects: usize, frames: usize) -> Vec<u8> {
     section(b"JNT0", &[e], &mut Rng::new(1))
 }
 
+/// The name of a track of the two sections below.
+pub fn track_name(t: usize) -> [u8; 16] {
+    let mut name = *b"material\0\0\0\0\0\0\0\0";
+    name[8] = b'a' + t as u8;
+    name
+}
+
 /// An SRT0 section with one entry: so many tracks, each with lists of so many frames for u and v.
 pub fn scroll(tracks: usize, frames: usize) -> Vec<u8> {
     let rng = &mut Rng::new(7);
@@ -603,7 +710,7 @@ pub fn scroll(tracks: usize, frames: usize) -> Vec<u8> {
     let mut e = vec![0; 4];
     put16(&mut e, frames);
     put16(&mut e, 0);
-    info_block(&mut e, 40, &data, &vec![[b's'; 16]; tracks]);
+    info_block(&mut e, 40, &data, &(0..tracks).map(track_name).collect::<Vec<_>>());
     e.extend(rng.bytes(tracks * 4 * frames));
     section(b"SRT0", &[e], &mut Rng::new(1))
 }
@@ -624,7 +731,7 @@ pub fn blink(tracks: usize, keys: usize) -> Vec<u8> {
     e.extend([4, 4]);
     put16(&mut e, head);
     put16(&mut e, head + 64);
-    info_block(&mut e, 8, &data, &vec![[b'b'; 16]; tracks]);
+    info_block(&mut e, 8, &data, &(0..tracks).map(track_name).collect::<Vec<_>>());
     e.extend([b'n'; 128]);
     for _ in 0..tracks {
         for k in 0..keys {

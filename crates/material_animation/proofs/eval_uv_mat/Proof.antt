@@ -1,6 +1,7 @@
 -- `material_animation::eval_uv_mat` meets its contract. Assumes nothing.
+use mathlib.Core.Path.{_∙_}
 use lib.Ieee.{ofBits}
-use Rattle.material_animation.proofs.MaterialLaws.{uv-at}
+use Rattle.material_animation.proofs.MaterialLaws.{shift-at, uv-at}
 use borrow.Author.Needs.{needs}
 use Rattle.material_animation.proofs.eval_uv_mat.Statement.{statement}
 use Rattle.material_animation.proofs.eval_uv_mat.Tie as tie
@@ -11,7 +12,7 @@ returns c =
     let v = c .before in
     let u = v .before in
     let a = u .before .before .args in
-    uv-at (a .s .now) (a .track) (a .frame) _ _ (u .sample-channel .ensures) (v .sample-channel2 .ensures) _ (c .from-translation .ensures)
+    λ curves w. c .from-translation .ensures ∙ uv-at _ curves (a .frame) (shift-at (a .s .now) (a .track) (a .frame) _ _ (u .sample-channel .ensures) (v .sample-channel2 .ensures) curves w)
 
 pub eval-uv-mat-spec : {M : Type 1} → statement M
 eval-uv-mat-spec =

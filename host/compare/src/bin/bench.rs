@@ -159,4 +159,18 @@ fn main() {
             black_box(pattern(black_box(&pat)).material_tracks[3].sample(17));
         },
     );
+    let name = sections::track_name(13);
+    row(
+        "both, by the name of track 13",
+        "material / read + find + sample",
+        || {
+            black_box(motion::material(black_box(&srt), 0, black_box(&pat), 0, &name, 17)).unwrap();
+        },
+        || {
+            let shifted = material(black_box(&srt)).tracks.into_iter().find(|t| t.name.0 == name);
+            black_box(shifted.unwrap().eval_uv_mat(17));
+            let chosen = pattern(black_box(&pat)).material_tracks.into_iter().find(|t| t.name.0 == name);
+            black_box(chosen.unwrap().sample(17));
+        },
+    );
 }
