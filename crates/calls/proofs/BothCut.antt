@@ -1,12 +1,9 @@
 -- What a cut of both sections leaves of the answer for a material: what it leaves of each entry. Assumes nothing.
 use Prim.Native.Nat.{ℕ, _≤_, _<_}
 use mathlib.Core.List.{List, _++_}
-use mathlib.Core.Path.{_≡_, refl, sym, ap, subst, _∙_}
-use native.Mathlib.Nat.{le-of-eq}
-use native.Mathlib.Omega.{arith}
-use lib.ListN.{length, take}
-use lib.Seq.{take-all}
-use Rattle.util.specs.Reader.{Reader, Outcome, accepted, refused, run, denied, told}
+use mathlib.Core.Path.{_≡_, refl, sym, ap, _∙_}
+use lib.ListN.{take}
+use Rattle.util.specs.Reader.{Outcome, accepted, refused, run, denied, told}
 use Rattle.util.specs.Place.{front}
 use Rattle.util.proofs.Cut as util-cut
 use Rattle.util.proofs.ReadsLaws.{not-both}
@@ -16,15 +13,6 @@ use Rattle.calls.specs.Material.{material}
 use Rattle.calls.specs.BothCut.{Accepted, BothCut}
 use Rattle.calls.proofs.CallsLaws.{together, by-entries}
 use Rattle.calls.proofs.Demand3.{whole, entry-kept, entry-short, own-read}
-
--- ---- what follows a front
-
-module _ {A : Type 0} (r : Reader A) (s t : List ℕ) where
-  -- what a front is accepted with, it is accepted with whatever follows
-  follows : (m : ℕ) (a : A) → run r s 0 ≡ accepted m a → run r (s ++ t) 0 ≡ accepted m a
-  follows m a e =
-      subst (λ (x : List ℕ). run r (x ++ t) 0 ≡ accepted m a) (take-all (length s) s (le-of-eq refl))
-      (util-cut.kept r s 0 m a e (length s) t (util-cut.no-further r s 0 m a e (omega arith)))
 
 -- ---- what is read of both
 
@@ -37,8 +25,8 @@ module _ (i j : ℕ) (name : Name) (frame : ℕ) where
       by-entries i j name frame _ _ (refused k) _ (util-cut.stays (entryOf srt i) s 0 k e (λ x. d (sym z ∙ x)) t) refl ∙ ap denied z
   stays-after s t p u n (accepted m a) (refused k) e f d q =
       let z : k ≡ n = cc in
-      by-entries i j name frame _ _ (accepted m a) (refused k) (follows (entryOf srt i) s t m a e) (util-cut.stays (entryOf pat j) p 0 k f (λ x. d (sym z ∙ x)) u) ∙ ap denied z
-  stays-after s t p u n (accepted m a) (accepted k b) e f d q = by-entries i j name frame _ _ (accepted m a) (accepted k b) (follows (entryOf srt i) s t m a e) (follows (entryOf pat j) p u k b f) ∙ q
+      by-entries i j name frame _ _ (accepted m a) (refused k) (util-cut.follows (entryOf srt i) s t m a e) (util-cut.stays (entryOf pat j) p 0 k f (λ x. d (sym z ∙ x)) u) ∙ ap denied z
+  stays-after s t p u n (accepted m a) (accepted k b) e f d q = by-entries i j name frame _ _ (accepted m a) (accepted k b) (util-cut.follows (entryOf srt i) s t m a e) (util-cut.follows (entryOf pat j) p u k b f) ∙ q
 
 -- ---- the theorem
 

@@ -15,7 +15,7 @@ use Rattle.util.proofs.ReadsLaws.{goes-on, stops}
 use Rattle.info_block.specs.Name.{Name, earliest}
 use Rattle.nitro.specs.Container.{Kind, stampOf, allKinds, kindOf, stamped, section, Entry, entryIn, entry, EntryRecord, recordOf, entryOf}
 use Rattle.nitro.proofs.ContainerLaws.{own-stamp, taken, own, stamp-of, stamp-taken, stamp-refused}
-use Rattle.calls.specs.Calls.{Call, check, find, on, Answer, Query, ask, reader, answer}
+use Rattle.calls.specs.Calls.{Call, check, find, on, Answer, ask, reader, answer}
 use Rattle.calls.specs.Demand3.{On, Demand3}
 use Rattle.calls.proofs.CallsLaws.{find-earliest}
 

@@ -4,11 +4,10 @@ use mathlib.Core.List.{List, [], _∷_}
 use mathlib.Core.Logic.{⊎-elim}
 use mathlib.Core.Option.{Option, none, some, Option·map}
 use mathlib.Core.Path.{_≡_, refl, sym, ap, _∙_}
-use native.Mathlib.Omega.{arith}
 use borrow.Author.Tests.{lt-ltb}
 use lib.ListN.{length, getD, take, drop}
-use Rattle.util.specs.Reader.{Reader, done, Outcome, accepted, refused, run, bind, answered, denied}
-use Rattle.util.proofs.Calls.{after, run-bind, accepted-first}
+use Rattle.util.specs.Reader.{accepted, refused, run, answered, denied}
+use Rattle.util.proofs.Calls.{accepted-first, refused-first}
 use Rattle.util.proofs.ReadsLaws.{stops}
 use Rattle.info_block.specs.Name.{Name, earliest, Named, Lowest}
 use Rattle.info_block.proofs.EarliestLaws.{earliest-name}
@@ -78,15 +77,6 @@ one-answer s i m a e p j n b f name frame =
 
 -- ---- which refusal it gives
 
--- the first reader of a refused call that reads no more
-first-refused : {A B : Type 0} (r : Reader A) (f : A → B) (s : List ℕ) (m n : ℕ) → run (bind r (λ x. done (f x))) s m ≡ refused n → run r s m ≡ refused n
-unfolding run after
-first-refused {A = A} r f s m n e = go (run r s m) (sym (run-bind r (λ x. done (f x)) s m) ∙ e)
-  where
-    go : (o : Outcome A) → after o (λ j a. accepted j (f a)) ≡ refused n → o ≡ refused n
-    go (accepted j a) q = let z : _≡_ {A = ℕ} 0 1 = cc in absurd (omega arith)
-    go (refused k) q = let z : k ≡ n = cc in ap refused z
-
 refuses : (k : Kind) (s : List ℕ) (i n : ℕ) → Refuses k s i n → run (entryOf k i) s 0 ≡ refused n
 unfolding entryOf
 refuses k s i n (unstamped e) = stops _ _ _ _ n (stamp-none s n e k)
@@ -96,7 +86,7 @@ refuses k s i n (another other e d q) =
     (λ (a : (other ≡ k) × (kindOf (k ∷ []) (take 4 s) ≡ answered k)). absurd (d (a .0)))
     (λ (x : kindOf (k ∷ []) (take 4 s) ≡ denied 1). stops _ _ _ _ n (stamp-refused s (w .0) k x ∙ ap refused (sym q)))
     (taken (take 4 s) other k (w .1))
-refuses k s i n (checked e c) = open-run s i k e ∙ first-refused (entry k i) (recordOf k) s 4 n (sym (check-stamped s i k e) ∙ c)
+refuses k s i n (checked e c) = open-run s i k e ∙ refused-first (entry k i) (recordOf k) s 4 n (sym (check-stamped s i k e) ∙ c)
 
 pub in-order : (s : List ℕ) (i : ℕ) (p : List ℕ) (j : ℕ) (name : Name) (frame : ℕ) → InOrder s i p j name frame
 in-order s i p j name frame =

@@ -3,7 +3,6 @@ use Prim.Native.Nat.{ℕ}
 use mathlib.Core.List.{List, []}
 use mathlib.Core.Option.{Option, none, some}
 use mathlib.Core.Path.{_≡_, refl, subst}
-use lib.Ieee.{Float, ofBits}
 use Rattle.util.specs.Reader.{answered, denied}
 use Rattle.material_animation.specs.declared.Shift.{Shift as CodeShift}
 use Rattle.material_animation.specs.declared.ShiftFound.{ShiftFound}

@@ -45,6 +45,15 @@ module _ {A B : Type 0} where
       go (accepted j a) q w = (j, a, q, w)
       go (refused n) q w = let z : _≡_ {A = ℕ} 0 1 = cc in absurd (omega arith)
 
+  -- a refused run whose second reader refuses nothing had its first reader refused
+  pub refused-first : (r : Reader A) (f : A → B) (s : List ℕ) (m n : ℕ) → run (bind r (λ x. done (f x))) s m ≡ refused n → run r s m ≡ refused n
+  unfolding run after
+  refused-first r f s m n e = go (run r s m) (sym (run-bind r (λ x. done (f x)) s m) ∙ e)
+    where
+      go : (o : Outcome A) → after o (λ j a. accepted j (f a)) ≡ refused n → o ≡ refused n
+      go (accepted j a) q = let z : _≡_ {A = ℕ} 0 1 = cc in absurd (omega arith)
+      go (refused k) q = let z : k ≡ n = cc in ap refused z
+
 module _ {B : Type 0} where
   silent : (v : Verdict B) (s s' : List ℕ) (m : ℕ) → run (tell v) s m ≡ run (tell v) s' m
   unfolding run

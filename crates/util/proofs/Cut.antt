@@ -3,12 +3,13 @@ use Prim.Native.Nat.{ℕ, zero, suc, _+_, max, _≤_, _<_}
 use mathlib.Core.Bool.{Bool, true, false}
 use mathlib.Core.List.{List, [], _∷_, _++_}
 use mathlib.Core.Logic.{⊎-elim, _⊎_, inl, inr}
-use mathlib.Core.Path.{_≡_, refl, ap, _∙_}
+use mathlib.Core.Path.{_≡_, refl, ap, subst, _∙_}
+use native.Mathlib.Nat.{le-of-eq}
 use native.Mathlib.Omega.{arith}
 use borrow.Author.Tests.{le-leb, lt-leb, leb-true, leb-false}
 use lib.Dec.{leb}
 use lib.ListN.{length, take, drop, length-take, length-append, length-drop}
-use lib.Seq.{take-append-le, drop-append-le, take-take}
+use lib.Seq.{take-append-le, drop-append-le, take-take, take-all}
 use Rattle.util.specs.Reader.{Reader, done, refuse, part, Outcome, accepted, refused, pick, ends, run}
 use Rattle.util.specs.Place.{front}
 
@@ -107,6 +108,10 @@ module _ {A : Type 0} where
   no-further (part p n f) s m m' a e l =
       let w = had-part (p + n) (length s) (run (f (take n (drop p s))) s (max m (p + n))) m' a e in
       no-further (f (take n (drop p s))) s (max m (p + n)) m' a (w .1) (omega arith)
+
+  -- what is accepted is accepted whatever follows
+  pub follows : (r : Reader A) (s t : List ℕ) (m : ℕ) (a : A) → run r s 0 ≡ accepted m a → run r (s ++ t) 0 ≡ accepted m a
+  follows r s t m a e = subst (λ (x : List ℕ). run r (x ++ t) 0 ≡ accepted m a) (take-all (length s) s (le-of-eq refl)) (kept r s 0 m a e (length s) t (no-further r s 0 m a e (omega arith)))
 
   -- a cut before the reach is too short
   pub cut : (r : Reader A) (s : List ℕ) (m m' : ℕ) (a : A) → run r s m ≡ accepted m' a → (k : ℕ) → m ≤ k → k < m' → run r (take k s) m ≡ refused 2

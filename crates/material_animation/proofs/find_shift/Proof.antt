@@ -35,11 +35,9 @@ eval-uv-shift-requires c κs =
 
 returns : tie.Need-returns
 returns c =
-    let b = c in
-    let z = b .before .before .before .before .before in
+    let z = c .before .before .before .before .before in
     let a = z .args in
-    let e = ap nameFoundMeans (sym (b .enum-told .given .1)) ∙ b .before .before .find-name .ensures in
-    λ w. shift-nothing (a .s .now) (a .a) w (a .name .now) (a .frame) e
+    λ w. shift-nothing (a .s .now) (a .a) w (a .name .now) (a .frame) (ap nameFoundMeans (sym (c .enum-told .given .1)) ∙ c .before .before .find-name .ensures)
 
 returns-2 : tie.Need-returns-2
 returns-2 c =
