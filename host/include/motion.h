@@ -2,8 +2,8 @@
  *
  * Link with libexports.a, which `rt staticlib exports` writes to target/staticlib.
  *
- * Every call takes a section of `length` bytes, motion_material two, of any length and with any contents, and ends. It answers 0, or the number
- * of its refusal:
+ * Every call takes a section of `length` bytes, motion_material two, motion_write_pattern lists in its place, of any length and with any contents,
+ * and ends. It answers 0, or the number of its refusal:
  *
  *    1  the first four bytes are no stamp that the call takes
  *    2  too short: a part ends past the section
@@ -13,14 +13,16 @@
  *    6  an animation of 0 frames
  *    7  a curve's start is not below its end
  *    8  a key's texture or palette is not below its count
- *    9  an index past its list
+ *    9  an index past its list; in writing, bytes left over in a list, or counts that do not add up
  *   10  nothing to sample: an empty list, or a track without keys
  *   11  the lent slice is too small
  *   12  more than 999 objects
  *   14  neither entry has a track of this name
+ *   15  more than 255 names of a sort, or tracks
+ *   16  an offset would pass 65,535, or the section 4,294,967,295 bytes
  *
  * What is lent keeps its contents where the call refuses. No pointer may be null, not even for 0 bytes, and what a call writes into may
- * not overlap a section. Indexes count from 0.
+ * not overlap anything else that it is lent. Indexes count from 0.
  */
 #ifndef MOTION_H
 #define MOTION_H
@@ -83,6 +85,16 @@ uint32_t motion_choice(const uint8_t *section, size_t length, size_t entry, size
  * come first, then those of the PAT0 section, then 14 where neither side has the track, then 10 where the PAT0 entry's has no keys. Names are
  * compared as by motion_find. */
 uint32_t motion_material(const uint8_t *srt, size_t srt_length, size_t srt_entry, const uint8_t *pat, size_t pat_length, size_t pat_entry, const uint8_t name[16], uint16_t frame, double shift[2], uint64_t choice[3]);
+
+/* Writes a PAT0 section of one entry into the `out_length` bytes at `out`, from the first on, and its size into written[0]. The bytes behind it
+ * keep their contents. The lists are bytes: sixteen a name, twenty a track, which are its name and how many keys it has in four little-endian
+ * bytes, and four a key as stored, its frame in two little-endian bytes, its texture and its palette. The keys stand track by track. Names are
+ * written as they are, and 0 frames too.
+ * Refused are, in this order: over 255 names of a sort or tracks, with 15, where bytes left over do not count; bytes left over in a list, or key
+ * counts that are not together the number of keys, with 9; a key's texture or palette that is not below its count, with 8; an offset that would
+ * pass 65,535, also that of an empty list, or a section that would pass 4,294,967,295 bytes, with 16; and an `out` that is shorter than the
+ * section, with 11. */
+uint32_t motion_write_pattern(const uint8_t name[16], uint16_t frames, const uint8_t *textures, size_t textures_length, const uint8_t *palettes, size_t palettes_length, const uint8_t *tracks, size_t tracks_length, const uint8_t *keys, size_t keys_length, uint8_t *out, size_t out_length, uint64_t written[1]);
 
 /* An object's translation or scale at the common frames of its three curves: x, y, z for each frame, into the `count` doubles at `floats`
  * from element `place` on. out[0] is 1, with the first frame, the one after the last, and how many frames were written; or 0 for three

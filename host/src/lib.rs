@@ -1,8 +1,8 @@
 //! Motion sections of two-screen handheld games: JNT0 (joints), SRT0 (texture coordinates) and PAT0 (textures and palettes).
 //!
-//! Every call takes the whole section as a byte slice, answers every input, and relies on no earlier call. An entry is whole or it is
-//! refused by number; its neighbours stand. The work is done by proved code, linked as a static library; this crate only lends it
-//! slices and takes its answers apart.
+//! Every call that reads takes the whole section as a byte slice, answers every input, and relies on no earlier call. An entry is whole or
+//! it is refused by number; its neighbours stand. [`write_pattern`] writes a PAT0 section from its lists. The work is done by proved code,
+//! linked as a static library; this crate only lends it slices and takes its answers apart.
 //!
 //! ```
 //! let walk = motion::example::WALK;
@@ -16,7 +16,7 @@ use std::fmt;
 /// What a call answers: a value, or the number of its refusal.
 pub type Result<T> = std::result::Result<T, Refusal>;
 
-/// The number of a refusal, 1 to 14.
+/// The number of a refusal, 1 to 16.
 #[derive(Clone, Copy, Debug, PartialEq, Eq)]
 pub struct Refusal(pub u32);
 
@@ -36,12 +36,14 @@ impl Refusal {
             6 => "the animation has no frames",
             7 => "a curve's start is not before its end",
             8 => "a key's texture or palette is not in its list",
-            9 => "the index is past its list",
+            9 => "the index is past its list, or the lists to be written do not add up",
             10 => "there is nothing to sample: an empty list, or a track without keys",
             11 => "the slice is too small",
             12 => "the animation has more than 999 objects",
             13 => "the input has more than 65,536 bytes",
             14 => "neither entry has a track of this name",
+            15 => "there are more than 255 names of a sort, or tracks",
+            16 => "an offset would pass 65,535, or the section 4,294,967,295 bytes",
             _ => "no refusal has this number",
         }
     }
@@ -119,6 +121,46 @@ pub struct Material {
     pub shift: [f64; 2],
     /// The texture and the palette that are chosen, if they are.
     pub choice: Option<Choice>,
+}
+
+/// What a PAT0 section of one entry is written from. The lists are bytes as in the section.
+#[derive(Clone, Copy, Debug, PartialEq, Eq)]
+pub struct Pattern<'a> {
+    pub name: [u8; 16],
+    pub frames: u16,
+    /// Sixteen bytes a name.
+    pub textures: &'a [u8],
+    /// Sixteen bytes a name.
+    pub palettes: &'a [u8],
+    /// Twenty bytes a track: its name, and how many keys it has in four little-endian bytes.
+    pub tracks: &'a [u8],
+    /// Four bytes a key, track by track: its frame in two little-endian bytes, its texture and its palette.
+    pub keys: &'a [u8],
+}
+
+/// A key as stored: a frame, and the indexes of a texture and a palette.
+#[derive(Clone, Copy, Debug, PartialEq, Eq)]
+pub struct Key {
+    pub frame: u16,
+    pub texture: u8,
+    pub palette: u8,
+}
+
+/// A track of a PAT0 entry.
+#[derive(Clone, Debug, PartialEq, Eq)]
+pub struct Track {
+    pub name: [u8; 16],
+    pub keys: Vec<Key>,
+}
+
+/// A PAT0 entry's name, its frames and its lists, which can be changed and written.
+#[derive(Clone, Debug, PartialEq, Eq)]
+pub struct PatternLists {
+    pub name: [u8; 16],
+    pub frames: u16,
+    pub textures: Vec<[u8; 16]>,
+    pub palettes: Vec<[u8; 16]>,
+    pub tracks: Vec<Track>,
 }
 
 /// What was resampled: the first frame and the one after the last (none for three missing curves), and how many frames were written.
@@ -202,6 +244,21 @@ mod calls {
             frame: u16,
             shift: *mut [f64; 2],
             choice: *mut [u64; 3],
+        ) -> u32;
+        pub fn motion_write_pattern(
+            name: *const [u8; 16],
+            frames: u16,
+            textures: *const u8,
+            textures_len: usize,
+            palettes: *const u8,
+            palettes_len: usize,
+            tracks: *const u8,
+            tracks_len: usize,
+            keys: *const u8,
+            keys_len: usize,
+            out: *mut u8,
+            out_len: usize,
+            written: *mut [u64; 1],
         ) -> u32;
         pub fn motion_resample_translation(
             s: *const u8,
@@ -541,6 +598,124 @@ pub fn pattern_name(section: &[u8], entry: usize, track: usize) -> Result<[u8; 1
     let mut out = [0; 2];
     let n = unsafe { calls::motion_pattern_name(section.as_ptr(), section.len(), entry, track, &mut out) };
     answer(n, name_of(out[0], out[1]))
+}
+
+/// A PAT0 entry's name, its frames and its lists. Keys that tracks share stand in each of them.
+///
+/// ```
+/// let flip = motion::pattern(motion::example::FLIP, 0).unwrap();
+/// assert_eq!((&flip.name[..4], flip.frames, flip.textures.len(), flip.palettes.len()), (&b"flip"[..], 10, 1, 2));
+/// assert_eq!(flip.tracks[1].keys, [motion::Key { frame: 3, texture: 0, palette: 1 }]);
+/// assert_eq!(motion::pattern(motion::example::WALK, 0), Err(motion::Refusal(1)));
+/// ```
+pub fn pattern(section: &[u8], entry: usize) -> Result<PatternLists> {
+    // first, since it takes no other stamp
+    let textures = names_at(section, texture_names(section, entry)?);
+    let palettes = names_at(section, palette_names(section, entry)?);
+    let record = check(section, entry)?;
+    let tracks = (0..record.count).map(|track| track_at(section, entry, track)).collect::<Result<_>>()?;
+    Ok(PatternLists { name: record.name, frames: record.frames, textures, palettes, tracks })
+}
+
+fn names_at(section: &[u8], names: Place) -> Vec<[u8; 16]> {
+    section[names.place..].chunks_exact(16).take(names.length).map(|name| name.try_into().unwrap()).collect()
+}
+
+fn track_at(section: &[u8], entry: usize, track: usize) -> Result<Track> {
+    let (name, keys) = (pattern_name(section, entry, track)?, keys(section, entry, track)?);
+    let stored = section[keys.place..].chunks_exact(4).take(keys.length);
+    let keys = stored.map(|b| Key { frame: u16::from_le_bytes([b[0], b[1]]), texture: b[2], palette: b[3] }).collect();
+    Ok(Track { name, keys })
+}
+
+impl PatternLists {
+    /// The PAT0 section of this one entry, by [`write_pattern`].
+    ///
+    /// ```
+    /// let mut flip = motion::pattern(motion::example::FLIP, 0).unwrap();
+    /// flip.tracks[1].keys[0].palette = 0;
+    /// assert_eq!(motion::pattern(&flip.section().unwrap(), 0), Ok(flip.clone()));
+    /// flip.tracks[1].keys[0].palette = 2;
+    /// assert_eq!(flip.section(), Err(motion::Refusal(8)));
+    /// ```
+    pub fn section(&self) -> Result<Vec<u8>> {
+        let (mut tracks, mut keys) = (vec![], vec![]);
+        for track in &self.tracks {
+            tracks.extend(track.name);
+            tracks.extend((track.keys.len() as u32).to_le_bytes());
+            for key in &track.keys {
+                keys.extend(key.frame.to_le_bytes());
+                keys.extend([key.texture, key.palette]);
+            }
+        }
+        let (textures, palettes) = (self.textures.as_flattened(), self.palettes.as_flattened());
+        // beside its lists a section has 76 bytes, and 8 more for each track
+        let mut out = vec![0; 76 + textures.len() + palettes.len() + tracks.len() + 8 * self.tracks.len() + keys.len()];
+        let lent = Pattern { name: self.name, frames: self.frames, textures, palettes, tracks: &tracks, keys: &keys };
+        let end = write_pattern(&lent, &mut out)?;
+        out.truncate(end);
+        Ok(out)
+    }
+}
+
+/// Writes a PAT0 section of one entry into `out`, from its start, and answers how many bytes it has. The rest of `out` keeps its contents, and so
+/// does all of it where the call refuses: with 15 over 255 names of a sort or tracks, where bytes left over do not count; with 9 bytes left over in
+/// a list, or key counts that are not together the number of keys; with 8 a key whose texture or palette is not in its list; with 16 an offset that
+/// would pass 65,535, or a section that would pass 4,294,967,295 bytes; with 11 an `out` that is shorter than the section. The first of these that
+/// holds is answered.
+///
+/// ```
+/// use motion::{example::FLIP, Choice, Pattern, Refusal};
+/// // the lists of an entry
+/// let list = |list: motion::Place, size| &FLIP[list.place..][..size * list.length];
+/// let record = motion::check(FLIP, 0).unwrap();
+/// let (textures, palettes) = (motion::texture_names(FLIP, 0).unwrap(), motion::palette_names(FLIP, 0).unwrap());
+/// let (mut tracks, mut keys) = (vec![], vec![]);
+/// for track in 0..record.count {
+///     let own = motion::keys(FLIP, 0, track).unwrap();
+///     tracks.extend(motion::pattern_name(FLIP, 0, track).unwrap());
+///     tracks.extend((own.length as u32).to_le_bytes());
+///     keys.extend(list(own, 4));
+/// }
+/// // palette 0 in the first key, which is that of track 1
+/// assert_eq!(motion::choice(FLIP, 0, 1, 5), Ok(Choice { texture: 0, palette: 1 }));
+/// assert_eq!(keys[..4], [3, 0, 0, 1]);
+/// keys[3] = 0;
+/// let (textures, palettes) = (list(textures, 16), list(palettes, 16));
+/// let pattern = Pattern { name: record.name, frames: record.frames, textures, palettes, tracks: &tracks, keys: &keys };
+/// let mut out = [7; 250];
+/// assert_eq!(motion::write_pattern(&pattern, &mut out), Ok(248));
+/// assert_eq!(out[248..], [7, 7]);
+/// // and read back
+/// let again = motion::check(&out, 0).unwrap();
+/// assert_eq!((again.name, again.reach, again.frames, again.count), (record.name, 248, 10, 4));
+/// assert_eq!(motion::choice(&out, 0, 1, 5), Ok(Choice { texture: 0, palette: 0 }));
+/// assert_eq!(motion::keys(&out, 0, 1), Ok(motion::Place { place: 236, length: 1 }));
+/// // there is no palette 2
+/// let keys = [3, 0, 0, 2].repeat(3);
+/// assert_eq!(motion::write_pattern(&Pattern { keys: &keys, ..pattern }, &mut out), Err(Refusal(8)));
+/// ```
+pub fn write_pattern(pattern: &Pattern, out: &mut [u8]) -> Result<usize> {
+    let Pattern { name, frames, textures, palettes, tracks, keys } = pattern;
+    let mut written = [0];
+    let n = unsafe {
+        calls::motion_write_pattern(
+            name,
+            *frames,
+            textures.as_ptr(),
+            textures.len(),
+            palettes.as_ptr(),
+            palettes.len(),
+            tracks.as_ptr(),
+            tracks.len(),
+            keys.as_ptr(),
+            keys.len(),
+            out.as_mut_ptr(),
+            out.len(),
+            &mut written,
+        )
+    };
+    answer(n, written[0] as usize)
 }
 
 // ---- SRT0 and PAT0 together

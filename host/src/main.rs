@@ -1,6 +1,8 @@
-//! motion: asks a motion section at a terminal.
+//! motion: asks a motion section at a terminal, and writes a pattern.
+mod text;
+
 use motion::{Curve, Pair, Refusal};
-use std::ffi::OsString;
+use std::ffi::{OsStr, OsString};
 use std::fs::File;
 use std::io::{self, ErrorKind, Read, Write};
 use std::os::fd::AsFd;
@@ -22,6 +24,8 @@ motion scale FILE ENTRY OBJECT AXIS INDEX
 motion resample FILE ENTRY OBJECT translation
 motion resample FILE ENTRY OBJECT scale
 motion material FILE ENTRY FILE ENTRY NAME FRAME
+motion pattern FILE ENTRY
+motion write TEXT FILE
 
 FILE is a JNT0, SRT0 or PAT0 section; - is standard input. A material has two: an SRT0 section first, then a PAT0
 section. NAME is text, or 0x and 32 hex digits; it ends before its first zero byte, and so does the name of an entry or
@@ -29,13 +33,31 @@ a track. Of entries or tracks with equal names the first is found. FRAME is 0 to
 ENTRY, OBJECT, TRACK, AXIS, CHANNEL and INDEX count from 0; INDEX counts the values that a scale's curve stores, of
 which each has two numbers and the first is sampled.
 --bits, in any place, prints each float as sixteen hex digits.
-The exit status is 0 where the section accepts, 1 where it refuses, 2 for misuse and where reading or writing fails.";
+
+pattern prints a PAT0 entry as a TEXT that can be edited, and write makes a PAT0 section of a TEXT; there FILE is what
+is written, and - is standard output. For TEXT, - is standard input. Its lines, of which the first two stand once, are
+    pattern NAME
+    frames N
+    texture NAME
+    palette NAME
+    track NAME
+    key FRAME TEXTURE PALETTE
+A key is of the track above it. Its TEXTURE and PALETTE count the texture lines and the palette lines from 0. The bytes
+that a NAME does not give are zeros. A word that begins with # ends its line.
+
+The exit status is 0 where the section accepts, 1 where it refuses, 2 for misuse, for a wrong line of a TEXT, and where
+reading or writing fails.";
 
 enum Stop {
     /// The refusal, and what is printed all the same.
     Refused(Refusal, String),
     Misuse(String),
+    /// What is wrong with a text, and where.
+    Fault(String),
+    /// The refusal of a text, and where.
+    RefusedAt(Refusal, String),
     Unread(String, io::Error),
+    Unwritten(String, io::Error),
 }
 
 impl From<Refusal> for Stop {
@@ -75,18 +97,18 @@ impl Args {
         }
     }
 
+    /// A file's name, which may be any bytes.
+    fn file(&self, at: usize, what: &str) -> Result<&OsStr, Stop> {
+        let file = self.words.get(at).ok_or_else(|| Stop::Misuse(format!("{what} is missing")))?;
+        Ok(file)
+    }
+
     fn section(&self) -> Result<Vec<u8>, Stop> {
         self.section_at(1)
     }
 
     fn section_at(&self, at: usize) -> Result<Vec<u8>, Stop> {
-        // a file's name may be any bytes
-        let file = self.words.get(at).ok_or_else(|| Stop::Misuse("FILE is missing".into()))?;
-        if file == "-" {
-            read_input().map_err(|e| Stop::Unread("standard input".into(), e))
-        } else {
-            std::fs::read(file).map_err(|e| Stop::Unread(file.to_string_lossy().into(), e))
-        }
+        read(self.file(at, "FILE")?)
     }
 
     fn floats(&self, floats: &[f64]) -> String {
@@ -123,31 +145,31 @@ fn read_input() -> io::Result<Vec<u8>> {
     Ok(bytes)
 }
 
-fn write_output(text: &str) -> io::Result<()> {
-    File::from(io::stdout().as_fd().try_clone_to_owned()?).write_all(text.as_bytes())
+fn write_output(bytes: &[u8]) -> io::Result<()> {
+    File::from(io::stdout().as_fd().try_clone_to_owned()?).write_all(bytes)
+}
+
+/// What a file that is read is called in a complaint.
+fn called(file: &OsStr) -> String {
+    if file == "-" {
+        "standard input".into()
+    } else {
+        file.to_string_lossy().into()
+    }
+}
+
+fn read(file: &OsStr) -> Result<Vec<u8>, Stop> {
+    let bytes = if file == "-" { read_input() } else { std::fs::read(file) };
+    bytes.map_err(|e| Stop::Unread(called(file), e))
 }
 
 fn shown(name: [u8; 16]) -> String {
     let text: String = name.iter().take_while(|&&b| b != 0).map(|&b| if b.is_ascii_graphic() { b as char } else { '.' }).collect();
-    let hex: String = name.iter().map(|b| format!("{b:02x}")).collect();
-    format!("{text} ({hex})")
+    format!("{text} ({})", text::hex_of(name))
 }
 
 fn name_of(word: &str) -> Result<[u8; 16], Stop> {
-    let mut name = [0; 16];
-    if let Some(hex) = word.strip_prefix("0x") {
-        if hex.len() != 32 || !hex.bytes().all(|b| b.is_ascii_hexdigit()) {
-            return Err(Stop::Misuse("a name in hex has 32 digits after 0x".into()));
-        }
-        for (k, byte) in name.iter_mut().enumerate() {
-            *byte = u8::from_str_radix(&hex[2 * k..2 * k + 2], 16).unwrap();
-        }
-    } else if word.len() > 16 {
-        return Err(Stop::Misuse("a name has at most sixteen bytes".into()));
-    } else {
-        name[..word.len()].copy_from_slice(word.as_bytes());
-    }
-    Ok(name)
+    text::name_of(word).map_err(Stop::Misuse)
 }
 
 fn list(args: &Args) -> Outcome {
@@ -246,14 +268,40 @@ fn material(args: &Args) -> Outcome {
     Ok(format!("u={}\nv={}\n{choice}", args.floats(&m.shift[..1]), args.floats(&m.shift[1..])))
 }
 
-fn run(args: &Args, options: &[OsString]) -> Outcome {
+fn pattern(args: &Args) -> Outcome {
+    args.no_more(3)?;
+    Ok(text::print(&motion::pattern(&args.section()?, args.index(2, "ENTRY")?)?))
+}
+
+/// Writes the section of a text into its file. Answers what is left for standard output.
+fn write(args: &Args) -> Result<Vec<u8>, Stop> {
+    args.no_more(3)?;
+    let (from, into) = (args.file(1, "TEXT")?, args.file(2, "FILE")?);
+    let text = text::parse(&read(from)?, &called(from)).map_err(Stop::Fault)?;
+    let section = text.pattern.section().map_err(|refusal| refused_at(refusal, &text, from))?;
+    if into == "-" {
+        return Ok(section);
+    }
+    std::fs::write(into, section).map_err(|e| Stop::Unwritten(called(into), e))?;
+    Ok(vec![])
+}
+
+fn refused_at(refusal: Refusal, text: &text::Text, file: &OsStr) -> Stop {
+    match text.astray() {
+        Some(line) if refusal == Refusal(8) => Stop::RefusedAt(refusal, format!("line {line} of {}", called(file))),
+        _ => refusal.into(),
+    }
+}
+
+fn run(args: &Args, options: &[OsString]) -> Result<Vec<u8>, Stop> {
     if let Some(option) = options.iter().find(|&o| o != "--bits" && o != "--help") {
         return Err(Stop::Misuse(format!("there is no option {option:?}")));
     }
     if options.iter().any(|o| o == "--help") {
-        return Ok(format!("{USAGE}\n"));
+        return Ok(format!("{USAGE}\n").into_bytes());
     }
-    match args.word(0, "a command")? {
+    let text = match args.word(0, "a command")? {
+        "write" => return write(args),
         "list" => list(args),
         "check" => check(args),
         "find" => find(args),
@@ -264,8 +312,10 @@ fn run(args: &Args, options: &[OsString]) -> Outcome {
         "scale" => scale(args),
         "resample" => resample(args),
         "material" => material(args),
+        "pattern" => pattern(args),
         other => Err(Stop::Misuse(format!("there is no command {other:?}"))),
-    }
+    };
+    text.map(String::into_bytes)
 }
 
 /// How a command is used, or where that is told if there is no such command.
@@ -287,13 +337,16 @@ fn complain(line: String) {
 fn main() -> ExitCode {
     let (options, words): (Vec<_>, Vec<_>) = std::env::args_os().skip(1).partition(|a| a.as_encoded_bytes().starts_with(b"--"));
     let args = Args { words, bits: options.iter().any(|o| o == "--bits") };
-    let (text, complaint, status) = match run(&args, &options) {
-        Ok(text) => (text, None, 0),
-        Err(Stop::Refused(refusal, text)) => (text, Some(refusal.to_string()), 1),
-        Err(Stop::Misuse(message)) => (String::new(), Some(format!("motion: {message}\n{}", usage(&args))), 2),
-        Err(Stop::Unread(file, e)) => (String::new(), Some(format!("motion: cannot read {file}: {e}")), 2),
+    let (output, complaint, status) = match run(&args, &options) {
+        Ok(output) => (output, None, 0),
+        Err(Stop::Refused(refusal, text)) => (text.into_bytes(), Some(refusal.to_string()), 1),
+        Err(Stop::RefusedAt(refusal, line)) => (vec![], Some(format!("{refusal} ({line})")), 1),
+        Err(Stop::Misuse(message)) => (vec![], Some(format!("motion: {message}\n{}", usage(&args))), 2),
+        Err(Stop::Fault(message)) => (vec![], Some(format!("motion: {message}")), 2),
+        Err(Stop::Unread(file, e)) => (vec![], Some(format!("motion: cannot read {file}: {e}")), 2),
+        Err(Stop::Unwritten(file, e)) => (vec![], Some(format!("motion: cannot write {file}: {e}")), 2),
     };
-    if let Err(e) = write_output(&text) {
+    if let Err(e) = write_output(&output) {
         // a reader who has seen enough closes the pipe, and need not be told
         if e.kind() != ErrorKind::BrokenPipe {
             complain(format!("motion: cannot write: {e}"));

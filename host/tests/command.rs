@@ -147,6 +147,199 @@ fn materials() {
     assert_eq!(refusal(&long(drift), 0, &long(flip), 0, b"fog"), 14);
 }
 
+/// What `motion pattern` prints of FLIP.
+const FLIP_TEXT: &str = "pattern flip
+frames 10
+texture 0x00000000000000000000000000000000 # 0
+palette 0x00000000000000000000000000000000 # 0
+palette 0x00000000000000000000000000000000 # 1
+track sky
+track 0x73656100eeeeeeeeeeeeeeeeeeeeeeee
+key 3 0 1
+track sea
+key 3 0 0
+track sun
+key 3 0 0
+";
+
+/// The section that `motion write` makes of a text, in a file of this name.
+fn made(name: &str, text: impl AsRef<[u8]>) -> Vec<u8> {
+    // what stood there before goes
+    let path = holding(name, &[b'#'; 1000]);
+    assert_eq!(motion(&format!("write - {}", path.display()), text.as_ref()), ("".into(), 0));
+    fs::read(path).unwrap()
+}
+
+/// Standard error and the exit status of `motion write TEXT FILE`, which leaves its file alone. In the complaint the text's file is TEXT.
+fn not_made(name: &str, text: impl AsRef<[u8]>) -> (String, i32) {
+    let (from, into) = (holding(format!("{name}.txt"), text.as_ref()), holding(format!("{name}.pat"), WALK));
+    let words = ["write", from.to_str().unwrap(), into.to_str().unwrap()];
+    let (complaint, status) = complaint(&words, Stdio::null(), Stdio::null());
+    assert_eq!(fs::read(&into).unwrap(), WALK, "{complaint}");
+    (complaint.replace(words[1], "TEXT"), status)
+}
+
+/// What bin/motion-list prints of a file.
+fn listed(file: &Path) -> String {
+    let output = Command::new(concat!(env!("CARGO_MANIFEST_DIR"), "/../bin/motion-list")).arg(file).output().unwrap();
+    assert!(output.status.success(), "{output:?}");
+    String::from_utf8(output.stdout).unwrap()
+}
+
+#[test]
+fn patterns() {
+    let flip = motion::example::FLIP;
+    assert_eq!(motion("pattern - 0", flip), (FLIP_TEXT.into(), 0));
+    let section = made("flip-written", FLIP_TEXT);
+    assert_eq!(section[..8], *b"PAT0\xf8\0\0\0");
+    assert_eq!(motion("pattern - 0", &section), (FLIP_TEXT.into(), 0));
+    assert_eq!(motion::pattern(&section, 0), motion::pattern(flip, 0));
+    assert_eq!(motion("check - 0", &section), ("name=flip (666c6970000000000000000000000000)\nreach=248\nframes=10\ncount=4\n".into(), 0));
+    let listing =
+        "listing=2\nsection=PAT0\nentries=1\nentry=0\nname=666c6970000000000000000000000000\nanswer=0\nreach=248\nframes=10\ntracks=4\n\
+                   accepted=1\nrefused=0\nsamples=3\n";
+    assert_eq!(motion::list(&section), listing);
+    assert_eq!(motion("list -", &section), (listing.into(), 0));
+    assert_eq!(listed(&holding("flip-listed", &section)), listing);
+    for track in 0..4 {
+        let words = format!("choice - 0 {track} 5");
+        assert_eq!(motion(&words, &section), motion(&words, flip), "{words}");
+    }
+    // one key repaired
+    let section = made("flip-repaired", FLIP_TEXT.replace("key 3 0 1", "key 4 0 0"));
+    assert_eq!(motion("choice - 0 1 5", &section), ("texture=0\npalette=0\n".into(), 0));
+    // to standard output, from a file
+    let text = holding("flip-text", FLIP_TEXT.as_bytes());
+    let run = Command::new(env!("CARGO_BIN_EXE_motion")).arg("write").arg(text).arg("-").output().unwrap();
+    assert_eq!((run.stdout, run.stderr, run.status.code()), (made("flip-to-compare", FLIP_TEXT), vec![], Some(0)));
+    // an entry behind another, where the first is refused
+    let mut two = [&flip[..8], &[0, 2], &[0; 18], &[4, 0, 0, 0], &[255, 0, 0, 0], &[72, 0, 0, 0], &[0; 16], &flip[32..]].concat();
+    assert_eq!(motion("pattern - 0", &two), ("".into(), 1));
+    assert_eq!(motion("pattern - 1", &two), (FLIP_TEXT.into(), 0));
+    assert_eq!(motion("pattern - 2", &two), ("".into(), 1));
+    two.pop();
+    assert_eq!(motion("pattern - 1", &two), ("".into(), 1));
+    // another kind is refused by its stamp, whole or not
+    for section in [WALK, &WALK[..85]] {
+        assert_eq!(motion::pattern(section, 0), Err(motion::Refusal(1)));
+        assert_eq!(motion("pattern - 0", section), ("".into(), 1));
+    }
+}
+
+#[test]
+fn texts() {
+    // any order and mixture, blank lines, comments, and the line ends of another system
+    let text = b"# a comment of any bytes: \xff\n\nframes 65535 #frames\r\n  texture\tsea  # the first\r\npalette day\ntexture ice#1\n\
+        track water\n# key 9 9 9\nkey 0 1 0\n  key 65535 0 1 #\n\npalette night\npattern waves";
+    let plain = "pattern waves\nframes 65535\ntexture sea # 0\ntexture ice#1 # 1\npalette day # 0\npalette night # 1\n\
+        track water\nkey 0 1 0\nkey 65535 0 1\n";
+    let section = made("waves", text);
+    assert_eq!(motion("pattern - 0", &section), (plain.into(), 0));
+    assert_eq!(made("waves-again", plain), section);
+    // nothing but a name, and no frames
+    let section = made("nothing", "pattern 0\nframes 0\n");
+    assert_eq!(section.len(), 76);
+    assert_eq!(motion("pattern - 0", &section), ("pattern 0\nframes 0\n".into(), 0));
+    // names that read back as they are, and names in hex
+    let names = [
+        "sixteen-letters!",
+        "a#b",
+        "0X0",
+        "0x00000000000000000000000000000000",
+        "0x00736561000000000000000000000000",
+        "0x23736561000000000000000000000000",
+        "0x30780000000000000000000000000000",
+        "0x73656120000000000000000000000000",
+        "0x736561000000000000000000000000ff",
+        "0x7365617f000000000000000000000000",
+        "0x736561c3a90000000000000000000000",
+        "0xffffffffffffffffffffffffffffffff",
+    ];
+    for name in names {
+        let text = format!("pattern {name}\nframes 1\ntexture {name} # 0\npalette {name} # 0\ntrack {name}\nkey 0 0 0\n");
+        assert_eq!(motion("pattern - 0", &made("named", &text)), (text, 0));
+    }
+    // what is plain is printed plainly, whatever it was written as
+    let (text, _) = motion("pattern - 0", &made("hex", "pattern 0x7365612D310000000000000000000000\nframes 1\ntrack seé\n"));
+    assert_eq!(text, "pattern sea-1\nframes 1\ntrack 0x7365c3a9000000000000000000000000\n");
+}
+
+#[test]
+fn wrong_texts() {
+    let number = |what: &str, most: &str, word: &str| format!("{what} is to be a number from 0 to {most}, and {word:?} is none");
+    let three = "a key is to have three numbers: frame, texture, palette".to_string();
+    for (line, fault) in [
+        ("key 0 0", three.clone()),
+        ("key", three.clone()),
+        ("key 0 0 # 0", three),
+        ("key 65536 0 0", number("a key's frame", "65535", "65536")),
+        ("key -1 0 0", number("a key's frame", "65535", "-1")),
+        ("key 0 256 0", number("a key's texture", "255", "256")),
+        ("key 0 0 256", number("a key's palette", "255", "256")),
+        ("key 0 0 x", number("a key's palette", "255", "x")),
+        ("key 0 0 0 1", "\"1\" is one word too many".into()),
+        ("texture", "a texture is to have a name".into()),
+        ("palette # sea", "a palette is to have a name".into()),
+        ("track sea side", "\"side\" is one word too many".into()),
+        ("texture seventeen-letters", "a name has at most sixteen bytes".into()),
+        ("palette 0x00", "a name in hex has 32 digits after 0x".into()),
+        ("pattern sea", "this is a second pattern line".into()),
+        ("frames 2", "this is a second frames line".into()),
+        ("Key 0 0 0", "a line begins with pattern, frames, texture, palette, track or key, and not with \"Key\"".into()),
+    ] {
+        let text = format!("pattern sea\nframes 1\n\ntexture a\npalette b\ntrack c\n{line}\nkey 0 0 9\n");
+        assert_eq!(not_made("wrong-line", text), (format!("motion: line 7 of TEXT: {fault}\n"), 2));
+    }
+    for (text, complaint) in [
+        ("key 0 0 0\ntrack sea\n", "line 1 of TEXT: a key is to stand below a track"),
+        ("pattern", "line 1 of TEXT: a pattern is to have a name"),
+        ("pattern a\nframes", "line 2 of TEXT: frames is to have a number"),
+        ("pattern a\nframes 65536", "line 2 of TEXT: frames is to be a number from 0 to 65535, and \"65536\" is none"),
+        ("pattern a\nframes 1 2", "line 2 of TEXT: \"2\" is one word too many"),
+        ("frames 1\n", "TEXT has no pattern line"),
+        ("pattern a\n", "TEXT has no frames line"),
+        ("", "TEXT has no pattern line"),
+    ] {
+        assert_eq!(not_made("wrong-text", text), (format!("motion: {complaint}\n"), 2));
+    }
+    assert_eq!(not_made("no-utf8", b"pattern a\ntrack \xff\n"), ("motion: line 2 of TEXT: a word is not UTF-8\n".into(), 2));
+    // and from standard input
+    let (text, status) = complaint(&["write", "-", "-"], Stdio::null(), Stdio::null());
+    assert_eq!((text.as_str(), status), ("motion: standard input has no pattern line\n", 2));
+}
+
+#[test]
+fn refused_texts() {
+    let text = |lines: &str| format!("pattern sea\nframes 1\ntexture a\npalette b\ntrack c\nkey 0 0 0\n{lines}");
+    for (lines, line) in [
+        ("key 0 1 0\n", 7),
+        ("key 0 0 1\nkey 0 1 0\n", 7),
+        ("palette d\nkey 0 0 1\nkey 0 1 0\n", 9),
+        ("texture d\nkey 0 1 0\nkey 0 0 1\n", 9),
+        ("\ntrack d\nkey 9 0 0\nkey 9 255 255\n", 10),
+    ] {
+        let complaint = format!("refused, 8: a key's texture or palette is not in its list (line {line} of TEXT)\n");
+        assert_eq!(not_made("refused-8", text(lines)), (complaint, 1));
+    }
+    // a texture that follows its key is counted
+    made("texture-below", text("key 0 1 0\ntexture d\n"));
+    let many = ("refused, 15: there are more than 255 names of a sort, or tracks\n".to_string(), 1);
+    for kind in ["texture", "palette", "track"] {
+        let lines = |count| text(&format!("{kind} x\n").repeat(count));
+        assert_eq!(motion::number(&made("many", lines(254)), 0), 0, "{kind}");
+        assert_eq!(not_made("refused-15", lines(255)), many, "{kind}");
+        // before any key
+        assert_eq!(not_made("refused-15", lines(255) + "key 0 9 9\n"), many, "{kind}");
+    }
+    // so many keys, and where the next track's would be: 28 + 2 * 28 + 32 + 4 * 16,354 is 65,532
+    let keys = |count: usize, more: &str| text(&("key 0 0 0\n".repeat(count - 1) + more));
+    let far = ("refused, 16: an offset would pass 65,535, or the section 4,294,967,295 bytes\n".to_string(), 1);
+    assert_eq!(motion::number(&made("far", keys(20_000, "")), 0), 0);
+    assert_eq!(motion::number(&made("far", keys(16_354, "track d\n")), 0), 0);
+    assert_eq!(not_made("refused-16", keys(16_355, "track d\n")), far);
+    assert_eq!(not_made("refused-16", keys(16_355, "track d\nkey 0 0 0\n")), far);
+}
+
 #[test]
 fn names_with_leftovers() {
     let mut section = WALK.to_vec();
@@ -211,6 +404,12 @@ fn misused() {
         "material - 0 / 0 sea",
         "material - 0 / 0 sea 5 5",
         "material - 0 / 0 a-name-that-is-too-long 5",
+        "pattern -",
+        "pattern - one",
+        "pattern - 0 0",
+        "write",
+        "write -",
+        "write - - -",
     ] {
         assert_eq!(motion(words, WALK), ("".into(), 2), "{words}");
     }
@@ -245,6 +444,10 @@ fn holding(name: impl AsRef<Path>, section: &[u8]) -> PathBuf {
 fn usage_is_told() {
     let (text, status) = complaint(&["check", "-"], Stdio::null(), Stdio::null());
     assert_eq!((text.as_str(), status), ("motion: ENTRY is missing\nusage: motion check FILE ENTRY\n", 2));
+    let (text, status) = complaint(&["write", "-"], Stdio::null(), Stdio::null());
+    assert_eq!((text.as_str(), status), ("motion: FILE is missing\nusage: motion write TEXT FILE\n", 2));
+    let (text, status) = complaint(&["write"], Stdio::null(), Stdio::null());
+    assert_eq!((text.as_str(), status), ("motion: TEXT is missing\nusage: motion write TEXT FILE\n", 2));
     let (text, status) = complaint(&["dance"], Stdio::null(), Stdio::null());
     assert_eq!((text.as_str(), status), ("motion: there is no command \"dance\"\nmotion --help shows the commands\n", 2));
     let (text, status) = motion("--help", b"");
@@ -261,6 +464,11 @@ fn not_read() {
     let words = ["material", srt.to_str().unwrap(), "0", second, "0", "sea", "5"];
     let (text, status) = complaint(&words, Stdio::null(), Stdio::null());
     assert_eq!((text, status), (format!("motion: cannot read {second}: No such file or directory (os error 2)\n"), 2));
+    // a text that is not read leaves the file alone
+    let kept = holding("kept", WALK);
+    let (text, status) = complaint(&["write", "/", kept.to_str().unwrap()], Stdio::null(), Stdio::null());
+    assert_eq!((text.as_str(), status), ("motion: cannot read /: Is a directory (os error 21)\n", 2));
+    assert_eq!(fs::read(kept).unwrap(), WALK);
     let (text, status) = complaint(&["list", "/"], Stdio::null(), Stdio::null());
     assert_eq!((text.as_str(), status), ("motion: cannot read /: Is a directory (os error 21)\n", 2));
     let (text, status) = complaint(&["list", "-"], read_only("/"), Stdio::null());
@@ -279,6 +487,19 @@ fn not_written() {
         let (text, status) = complaint(&words, Stdio::null(), read_only("/dev/null"));
         assert_eq!((text.as_str(), status), ("motion: cannot write: Bad file descriptor (os error 9)\n", 2), "{words:?}");
     }
+    // a section into a file, and to standard output
+    let text = holding("text-not-written", FLIP_TEXT.as_bytes());
+    let text = text.to_str().unwrap();
+    for (file, reason) in [
+        ("/", "Is a directory (os error 21)"),
+        ("/dev/full", "No space left on device (os error 28)"),
+        ("/no/such/folder", "No such file or directory (os error 2)"),
+    ] {
+        let (said, status) = complaint(&["write", text, file], Stdio::null(), Stdio::null());
+        assert_eq!((said, status), (format!("motion: cannot write {file}: {reason}\n"), 2));
+    }
+    let (said, status) = complaint(&["write", text, "-"], Stdio::null(), write_only("/dev/full"));
+    assert_eq!((said.as_str(), status), ("motion: cannot write: No space left on device (os error 28)\n", 2));
     // a refusal that cannot be listed is no mere refusal
     let (text, status) = complaint(&["list", "-"], Stdio::null(), write_only("/dev/full"));
     assert_eq!((text.as_str(), status), ("motion: cannot write: No space left on device (os error 28)\n", 2));

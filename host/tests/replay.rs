@@ -35,6 +35,21 @@ extern "C" {
         shift: *mut u64,
         choice: *mut u64,
     ) -> u32;
+    fn motion_write_pattern(
+        name: *const u8,
+        frames: u16,
+        textures: *const u8,
+        textures_len: usize,
+        palettes: *const u8,
+        palettes_len: usize,
+        tracks: *const u8,
+        tracks_len: usize,
+        keys: *const u8,
+        keys_len: usize,
+        out: *mut u8,
+        out_len: usize,
+        written: *mut u64,
+    ) -> u32;
     fn motion_resample_translation(
         s: *const u8,
         len: usize,
@@ -111,6 +126,26 @@ fn call(c: &[u8], s: &[u8], words: &mut [u64], floats: &mut [u64], bytes: &mut [
                 let (srt, pat) = s.split_at(index.min(len));
                 motion_material(srt.as_ptr(), srt.len(), entry, pat.as_ptr(), pat.len(), part, c[9..25].as_ptr(), frame, f, w)
             }
+            19 => {
+                let (textures, rest) = s.split_at(index.min(len));
+                let (palettes, rest) = rest.split_at(part.min(rest.len()));
+                let (tracks, keys) = rest.split_at(place.min(rest.len()));
+                motion_write_pattern(
+                    c[9..25].as_ptr(),
+                    frame,
+                    textures.as_ptr(),
+                    textures.len(),
+                    palettes.as_ptr(),
+                    palettes.len(),
+                    tracks.as_ptr(),
+                    tracks.len(),
+                    keys.as_ptr(),
+                    keys.len(),
+                    bytes.as_mut_ptr(),
+                    room.min(240),
+                    w,
+                )
+            }
             code => panic!("no call has the code {code}"),
         }
     }
@@ -129,6 +164,7 @@ fn lent(code: u8) -> (usize, usize, usize) {
         16 => (0, 0, 0),
         17 => (0, 2, 0),
         18 => (3, 2, 0),
+        19 => (1, 0, 240),
         _ => (2, 0, 0),
     }
 }
@@ -159,7 +195,12 @@ fn stored_calls_keep_every_bit() {
             let now = |before: u64, said: u64| if said == LEFT { before } else { said };
             let expected_words: Vec<u64> = words.iter().zip(&said[1..]).map(|(&x, &y)| now(x, y)).collect();
             let expected_floats: Vec<u64> = floats.iter().zip(&said[1 + w..]).map(|(&x, &y)| now(x, y)).collect();
-            let written = if said[0] == 0 { 128 } else { 0 };
+            let written = match c[0] {
+                _ if said[0] != 0 => 0,
+                // a section, as long as its word says
+                19 => said[1] as usize,
+                _ => 128,
+            };
             let expected_bytes: Vec<u8> =
                 bytes.iter().zip(&said[1 + w + f..]).enumerate().map(|(i, (&x, &y))| if i < written { y as u8 } else { x }).collect();
             for x in &expected_floats {

@@ -42,9 +42,12 @@ module _ (k : Kind) (s : List ℕ) (i : ℕ) (q : Query k) where
   entry-denied n e = ap told (stops _ _ _ _ n e)
 
   -- an entry that is read whole
-  pub entry-asked : (m : ℕ) (e : Entry k) → run (entryOf k i) s 0 ≡ accepted m e → told (answer (on k i q) s) ≡ ask q e
+  pub entry-tells : (m : ℕ) (e : Entry k) → run (entryOf k i) s 0 ≡ accepted m e → answer (on k i q) s ≡ run (tell (ask q e)) s m
   unfolding answer reader
-  entry-asked m e h = ap told (goes-on _ _ _ _ m e h) ∙ said (ask q e) s m
+  entry-tells m e h = goes-on _ _ _ _ m e h
+
+  pub entry-asked : (m : ℕ) (e : Entry k) → run (entryOf k i) s 0 ≡ accepted m e → told (answer (on k i q) s) ≡ ask q e
+  entry-asked m e h = ap told (entry-tells m e h) ∙ said (ask q e) s m
 
   -- .. that is opened and holds v
   pub asked : (e : EntryAt) → OpenReads k s i (EntryFound.At e) → (m : ℕ) (v : Value k) → run (value k) (drop (e .offset) s) 0 ≡ accepted m v

@@ -14,9 +14,9 @@ use Rattle.info_block.proofs.EarliestLaws.{earliest-name}
 use Rattle.material_animation.specs.MaterialAnimation.{shiftAt, shiftOf, uvMatrixAt}
 use Rattle.material_animation.proofs.MaterialLaws as material-laws
 use Rattle.pattern.specs.Pattern.{noTrack, keysOf}
-use Rattle.pattern.proofs.PatternLaws as pattern-laws
-use Rattle.nitro.specs.Container.{Kind, srt, pat, kindOf, stamped, value, Entry, entry, recordOf, entryOf}
-use Rattle.nitro.proofs.ContainerLaws.{taken, stamp-of, stamp-refused, stamp-none, held-read}
+use Rattle.pattern.proofs.HeldLaws as pattern-laws
+use Rattle.nitro.specs.Container.{Kind, srt, pat, kindOf, Entry, entry, recordOf, entryOf}
+use Rattle.nitro.proofs.ContainerLaws.{taken, stamp-of, stamp-refused, stamp-none, value-read}
 use Rattle.nitro.proofs.EntryLaws.{open-run}
 use Rattle.calls.specs.Calls.{ofMaterial, uvMatrix, chosenOf, ofPattern, chosen, askMaterial, askPattern, ask}
 use Rattle.calls.specs.Material.{joined, material}
@@ -24,10 +24,6 @@ use Rattle.calls.specs.OneAnswer.{uvMatrixOf, choiceOf, OneAnswer, Refus
 use Rattle.calls.proofs.CallsLaws.{check-stamped, entry-asked, by-entries}
 
 -- ---- each side
-
-value-read : (k : Kind) (s : List ℕ) (i m : ℕ) (a : Entry k) → run (entryOf k i) s 0 ≡ accepted m a → (n : ℕ) × (run (value k) (drop (a .offset) s) 0 ≡ accepted n (a .held))
-unfolding entryOf
-value-read k s i m a e = let w = accepted-first (stamped (k ∷ [])) (λ _. entry k i) s 0 m a e in held-read k s i (w .0) m a (w .3)
 
 module _ (s : List ℕ) (i m : ℕ) (a : Entry srt) (e : run (entryOf srt i) s 0 ≡ accepted m a) (t : ℕ) (h : t < length (a .held .names)) (frame : ℕ) where
   uv-found : uvMatrixOf i t frame s ≡ answered (uvMatrixAt (getD (a .held .tracks) t []) frame)

@@ -11,6 +11,7 @@ use nitro::entry::EntryCheck;
 use text::ROOM;
 use words::CURVE_WORDS;
 use words::put_choice;
+use words::put_count;
 use words::put_curve;
 use words::put_found;
 use words::put_list;
@@ -22,6 +23,7 @@ use words::put_rotation;
 use words::put_scale;
 use words::put_sixteen;
 use words::put_value;
+use writing::write_pattern;
 ghost use mathlib.Core.Path.{_≡_};
 ghost use lib.ListN.{length};
 ghost use lib.Seq.{sets};
@@ -32,8 +34,9 @@ ghost use Rattle.nitro.specs.Container.{jnt, srt, pat};
 ghost use Rattle.calls.specs.Calls.{answer, on, ofObject, matrixBytes, curve, scaleValue, rotationCurve, resampled, ofMaterial, uvMatrix, channelCurve, materialName, ofPattern, chosen, textureNames, paletteNames, patternName, bytesAfter};
 ghost use Rattle.calls.specs.Calls as calls;
 ghost use Rattle.calls.specs.Material as material;
+ghost use Rattle.pattern_section.specs.Written.{lent};
 ghost use Rattle.listing.specs.Listing.{listing};
-ghost use Rattle.words.specs.Words.{Writes, nameWords, checked, recordWords, curveWords, curveFloats, oneFloat, twoFloats, nineFloats, sixteenFloats, listedWords, chosenWords, shiftFloats, materialWords, resampledWords, foundWords};
+ghost use Rattle.words.specs.Words.{Writes, nameWords, checked, recordWords, curveWords, curveFloats, oneFloat, twoFloats, nineFloats, sixteenFloats, listedWords, chosenWords, shiftFloats, materialWords, resampledWords, foundWords, WritesPattern};
 
 // Whether an entry is whole: the number of its check.
 #[no_mangle]
@@ -257,6 +260,27 @@ pub extern "C" fn motion_material(
         material(srt, srt_entry, pat, pat_entry, name, frame),
         shift,
         choice,
+    )
+}
+
+// A PAT0 section of one entry, written from the start of `out`: how many bytes it has. What stands behind it in `out` keeps its contents, and so
+// does all of it where the call refuses. Lists are bytes: 16 a name, 20 a track (its name, and how many keys it has), 4 a key, track by track.
+#[no_mangle]
+pub extern "C" fn motion_write_pattern(
+    name: &[u8; 16],
+    frames: u16,
+    textures: &[u8],
+    palettes: &[u8],
+    tracks: &[u8],
+    keys: &[u8],
+    out: &mut [u8],
+    written: &mut [u64; 1],
+) -> u32
+    ensures { λ r. ⌜ WritesPattern (lent (now (name .entry)) frames (now (textures .entry)) (now (palettes .entry)) (now (tracks .entry)) (now (keys .entry))) r (now (out .entry)) (now (out .exit)) (now (written .entry)) (now (written .exit)) ⌝ }
+{
+    put_count(
+        write_pattern(name, frames, textures, palettes, tracks, keys, out),
+        written,
     )
 }
 

@@ -1,17 +1,21 @@
 -- The info block's run, by what the section holds. Assumes nothing.
 use Prim.Native.Nat.{ℕ, _+_, _*_, max, _≤_, _<_}
+use mathlib.Core.Bool.{Bool, true, false}
 use mathlib.Core.List.{List}
-use mathlib.Core.Path.{_≡_, refl, sym, ap, subst, _∙_}
+use mathlib.Core.Logic.{⊎-elim}
+use mathlib.Core.Path.{_≡_, refl, subst}
 use native.Mathlib.Nat.{mul-le-mul}
 use native.Mathlib.Omega.{arith}
-use borrow.Author.Tests.{eq-eqb, ne-eqb}
-use lib.ListN.{length, drop}
+use borrow.Author.Tests.{eq-eqb, ne-eqb, eqb-true, eqb-false}
+use lib.Dec.{eqb}
+use lib.ListN.{length, drop, length-drop}
 use Rattle.util.specs.View.{wordAt}
 use Rattle.util.specs.Reader.{accepted, refused, run, bind, unless}
-use Rattle.util.proofs.Cut.{had, had-part, past, short, over, to}
+use Rattle.util.proofs.All.{Each}
+use Rattle.util.proofs.Cut.{le-or-lt, had, past, short, over, to}
+use Rattle.util.proofs.Fields.{view-sized}
 use Rattle.util.proofs.ViewLaws.{view-take, view-length}
-use Rattle.util.proofs.Calls.{accepted-first}
-use Rattle.util.proofs.ReadsLaws.{done-is}
+use Rattle.util.proofs.ReadsLaws.{one-value, not-both}
 use Rattle.info_block.specs.declared.InfoBlock.{InfoBlock}
 use Rattle.info_block.specs.InfoBlock.{Block, infoBlock}
 use Rattle.info_block.specs.InfoBlockCode.{blockAt}
@@ -19,31 +23,6 @@ use Rattle.info_block.specs.InfoBlockCode.{blockAt}
 -- a product of what is at most 64 and a byte
 pub few : (a b : ℕ) → a ≤ 64 → b ≤ 255 → a * b ≤ 64 * 255
 few a b h l = mul-le-mul h l
-
--- there are as many datums and as many names as it counts: the parts one by one, of which the second is the count and the last are those two
-pub lists-counted : (p size : ℕ) (s : List ℕ) (m j : ℕ) (b : Block) → run (infoBlock p size) s m ≡ accepted j b → (length (b .datums) ≡ b .count) × (length (b .names) ≡ b .count)
-unfolding run infoBlock
-lists-counted p size s m j b h =
-    let w = accepted-first _ _ s m j b h in
-    let w = accepted-first _ _ s _ j b (w .3) in
-    let count : ℕ = w .1 in
-    let w = accepted-first _ _ s _ j b (w .3) in
-    let w = accepted-first _ _ s _ j b (w .3) in
-    let w = accepted-first _ _ s _ j b (w .3) in
-    let w = accepted-first _ _ s _ j b (w .3) in
-    let w = accepted-first _ _ s _ j b (w .3) in
-    let w = accepted-first _ _ s _ j b (w .3) in
-    let w = accepted-first _ _ s _ j b (w .3) in
-    let datums = accepted-first _ _ s _ j b (w .3) in
-    let names = accepted-first _ _ s _ j b (datums .3) in
-    let w = accepted-first _ _ s _ j b (names .3) in
-    let w = accepted-first _ _ s _ j b (w .3) in
-    let q = done-is _ s _ j b (w .3) in
-    let d = done-is _ s _ _ _ (had-part _ _ _ _ _ (datums .2) .1) in
-    let n = done-is _ s _ _ _ (had-part _ _ _ _ _ (names .2) .1) in
-    let k : length (datums .1) ≡ count = ap length (sym d) ∙ view-length size (λ bs. bs) count _ in
-    let l : length (names .1) ≡ count = ap length (sym n) ∙ view-length 16 (λ bs. bs) count _ in
-    subst (λ (x : Block). (length (x .datums) ≡ x .count) × (length (x .names) ≡ x .count)) q (k, l)
 
 module _ (p size : ℕ) (s : List ℕ) (reach : ℕ) where
   -- where the lists stand, for a count
@@ -79,3 +58,41 @@ module _ (p size : ℕ) (s : List ℕ) (reach : ℕ) where
       whole z d =
           rw (e, eq-eqb (wordAt 1 s p) 0 z, eq-eqb (wordAt 2 s (p + 12 + 4 * c)) size d, view-take size (λ bs. bs) c (drop (placed c .datums) s), view-take 16 (λ bs. bs) c (drop (placed c .names) s))
           (had _ _ _ _ (omega arith) (had _ _ _ _ (omega arith) (had _ _ _ _ (omega arith) (had _ _ _ _ (omega arith) (had _ _ _ _ (omega arith) (had _ _ _ _ (omega arith) (had _ _ _ _ (omega arith) (had _ _ _ _ (omega arith) (had _ _ _ _ (omega arith) (had _ _ _ _ (omega arith) (had _ _ _ _ (omega arith) (to _ _ _ (over _ _ _ _ (omega arith) (over _ _ _ _ (omega arith) (over _ _ _ _ (omega arith) (over _ _ _ _ (omega arith) (over _ _ _ _ (omega arith) (over _ _ _ _ (omega arith) (over _ _ _ _ (omega arith) (over _ _ _ _ (omega arith) (over _ _ _ _ (omega arith) (over _ _ _ _ (omega arith) refl))))))))))))))))))))))
+
+-- ---- what is accepted
+
+-- a block that has as many datums and names as it counts, each of its own size
+pub record Even (size : ℕ) (b : Block) : Type 0 where
+  pub datums : length (b .datums) ≡ b .count
+  pub names : length (b .names) ≡ b .count
+  pub sized : Each (λ x. length x ≡ size) (b .datums)
+  pub sixteen : Each (λ x. length x ≡ 16) (b .names)
+
+-- where its lists stand
+abbrev pub stood : ℕ → ℕ → List ℕ → InfoBlock
+stood p size s = placed p size s 0 (wordAt 1 s (p + 1))
+
+module _ (p size : ℕ) (s : List ℕ) (m j : ℕ) (b : Block) (e : run (infoBlock p size) s m ≡ accepted j b) where
+  block-inside : stood p size s .end ≤ length s
+  block-inside = ⊎-elim (λ (h : stood p size s .end ≤ length s). h) (λ (h : length s < stood p size s .end). absurd (not-both e (lists-short p size s m _ refl h))) (le-or-lt (stood p size s .end) (length s))
+
+  -- it is the block that stands there
+  pub block-is : blockAt s size (stood p size s) ≡ b
+  block-is = go (eqb (wordAt 1 s p) 0) (eqb (wordAt 2 s (p + 12 + 4 * stood p size s .count)) size) refl refl
+    where
+      go : (x y : Bool) → eqb (wordAt 1 s p) 0 ≡ x → eqb (wordAt 2 s (p + 12 + 4 * stood p size s .count)) size ≡ y → blockAt s size (stood p size s) ≡ b
+      go true true q r = one-value (whole p size s m _ refl block-inside (eqb-true _ _ q) (eqb-true _ _ r)) e
+      go true false q r = absurd (not-both e (wrong-size p size s m _ refl block-inside (eqb-true _ _ q) (eqb-false _ _ r)))
+      go false y q r = absurd (not-both e (not-zero p size s m _ refl block-inside (eqb-false _ _ q)))
+
+  pub block-even : Even size b
+  block-even =
+      let h = block-inside in
+      let w = stood p size s in
+      subst (Even size) block-is
+      (record {
+        datums = view-length size (λ x. x) (w .count) (drop (w .datums) s);
+        names = view-length 16 (λ x. x) (w .count) (drop (w .names) s);
+        sized = view-sized size (w .count) (drop (w .datums) s) (simp length-drop (omega arith));
+        sixteen = view-sized 16 (w .count) (drop (w .names) s) (simp length-drop (omega arith));
+      })

@@ -4,3 +4,4 @@ pub mod EarliestLaws
 pub mod NameLaws
 pub mod BytesLaws
 pub mod NumberLaws
+pub mod WrittenLaws

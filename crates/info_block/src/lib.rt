@@ -2,8 +2,14 @@
 pub mod name;
 
 use util::view::byte;
+use util::view::put_word;
 use util::view::word16;
-ghost use Prim.Native.Nat.{ℕ, _≤_};
+ghost use mathlib.Core.List.{flatten};
+ghost use mathlib.Core.Path.{_≡_};
+ghost use Prim.Native.Nat.{ℕ, _+_, _*_, _≤_};
+ghost use lib.ListN.{length};
+ghost use lib.Seq.{sets};
+ghost use Rattle.info_block.specs.InfoBlock.{blockHead};
 ghost use Rattle.info_block.specs.InfoBlockCode.{BlockReads};
 
 // Where the datums and the names stand, how many there are, and where the block ends.
@@ -48,4 +54,18 @@ pub fn read(s: &[u8], p: usize, size: usize) -> BlockRead
         names,
         end,
     })
+}
+
+// An info block's fields before its datums, of which each has `size` bytes, from `at` on: answers where the datums go.
+pub fn put_head(out: &mut [u8], at: usize, count: usize, size: u64) -> usize
+    requires { ⌜ at + 16 + 4 * count ≤ length (now out) ⌝ }
+    ensures { λ r. ⌜ (r ≡ at + 16 + 4 * count) × (now (out .exit) ≡ sets (now (out .entry)) at (flatten (blockHead count size))) ⌝ }
+{
+    let a = put_word(out, at, 1, 0);
+    let b = put_word(out, a, 1, count as u64);
+    // the four words that nothing reads, as one
+    let c = put_word(out, b, 10, 0);
+    let d = put_word(out, c, 4 * count, 0);
+    let e = put_word(out, d, 2, size);
+    put_word(out, e, 2, 0)
 }

@@ -30,7 +30,7 @@ use Rattle.curve.specs.Curve.{Curve, none, samples, sampleCount, mix, sampleAt,
 use Rattle.curve.specs.CurveCode.{listMeans}
 use Rattle.info_block.specs.InfoBlock.{Block, infoBlock}
 use Rattle.info_block.specs.InfoBlockCode.{blockAt, BlockReads}
-use Rattle.info_block.proofs.InfoBlockLaws.{lists-counted}
+use Rattle.info_block.proofs.InfoBlockLaws.{block-even}
 use Rattle.material_animation.specs.MaterialAnimation.{MaterialAnimation, trackSamples, carries, channelList, channel, channelNumbers, channels, materialAnimation, Shift, shiftAt, uvMatrixAt}
 use Rattle.material_animation.specs.MaterialAnimationCode.{trackAt, ChannelGives, TrackIs, WholeMaterial}
 
@@ -263,5 +263,5 @@ module _ (s : List ℕ) (m j : ℕ) (v : MaterialAnimation) (e : run materialAni
   pub track-for-name : length (v .tracks) ≡ length (v .names)
   track-for-name =
       let w = taken in
-      let c = lists-counted 8 40 s (w .start) (w .end) (w .block) (w .read) in
-      each-read channels s (w .block .datums) (w .end) (w .far) (v .tracks) (w .tracks) .0 ∙ (c .0 ∙ sym (ap length (w .names) ∙ c .1))
+      let c = block-even 8 40 s (w .start) (w .end) (w .block) (w .read) in
+      each-read channels s (w .block .datums) (w .end) (w .far) (v .tracks) (w .tracks) .0 ∙ (c .datums ∙ sym (ap length (w .names) ∙ c .names))

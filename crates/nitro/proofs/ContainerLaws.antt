@@ -5,14 +5,15 @@ use mathlib.Core.List.{List, [], _∷_}
 use mathlib.Core.Logic.{_⊎_, inl, inr, ⊎-elim}
 use mathlib.Core.Path.{_≡_, refl, sym, ap, _∙_}
 use native.Mathlib.Omega.{arith}
-use borrow.Author.Tests.{le-ltb, lt-ltb}
+use borrow.Author.Tests.{le-ltb, lt-ltb, ltb-true}
 use lib.Dec.{ltb, lit≤}
 use lib.ListN.{length, take, drop, getD}
 use Rattle.util.specs.View.{little, wordAt, same}
 use Rattle.util.specs.Reader.{Reader, done, Outcome, accepted, refused, ends, run, bind, unless, Verdict, answered, denied, tell}
 use Rattle.util.specs.Place.{within, moved, raised}
+use Rattle.util.proofs.All.{each-at}
 use Rattle.util.proofs.Calls.{after, run-bind-as, accepted-first}
-use Rattle.util.proofs.ReadsLaws.{goes-on, done-is}
+use Rattle.util.proofs.ReadsLaws.{goes-on, done-is, test-held}
 use Rattle.util.proofs.Cut.{le-or-lt, had, had-part, short, max-right}
 use Rattle.util.proofs.Place.{run-within, lowered}
 use Rattle.util.proofs.ViewLaws.{same-like, view-there}
@@ -23,8 +24,8 @@ use Rattle.material_animation.specs.MaterialAnimation.{materialAnimation}
 use Rattle.pattern.specs.Pattern.{pattern}
 use Rattle.info_block.specs.InfoBlock.{Block, infoBlock}
 use Rattle.info_block.specs.InfoBlockCode.{blockAt}
-use Rattle.info_block.proofs.InfoBlockLaws.{lists-counted}
-use Rattle.nitro.specs.Container.{Kind, jnt, srt, pat, stampOf, allKinds, kindOf, stamped, section, Value, value, Entry, entryIn, entry}
+use Rattle.info_block.proofs.InfoBlockLaws.{block-even}
+use Rattle.nitro.specs.Container.{Kind, jnt, srt, pat, stampOf, allKinds, kindOf, stamped, section, Value, value, Entry, entryIn, entry, entryOf}
 use Rattle.nitro.specs.declared.container.EntryFound.{EntryFound}
 use Rattle.nitro.specs.ContainerCode.{HeaderReads, entryFrom, EntryReads}
 
@@ -162,7 +163,15 @@ held-read k s i m j e h =
     let w = lowered (c .0) off (run (value k) (drop off s) 0) (d .0) (d .1) (sym (value-within k off s (c .0)) ∙ d .2) in
     (w .0, ap (λ (x : Entry k). run (value k) (drop (x .offset) s) 0) (sym q) ∙ (w .1 ∙ ap (λ (x : Entry k). accepted (w .0) (x .held)) q))
 
--- .. and the name that stands at its index
+-- the same from the section's start, where the stamp is read first
+after-stamp : (k : Kind) (s : List ℕ) (i m : ℕ) (e : Entry k) → run (entryOf k i) s 0 ≡ accepted m e → (j : ℕ) × (run (entry k i) s j ≡ accepted m e)
+unfolding entryOf
+after-stamp k s i m e h = let w = accepted-first (stamped (k ∷ [])) (λ _. entry k i) s 0 m e h in (w .0, w .3)
+
+pub value-read : (k : Kind) (s : List ℕ) (i m : ℕ) (e : Entry k) → run (entryOf k i) s 0 ≡ accepted m e → (n : ℕ) × (run (value k) (drop (e .offset) s) 0 ≡ accepted n (e .held))
+value-read k s i m e h = let w = after-stamp k s i m e h in held-read k s i (w .0) m e (w .1)
+
+-- its name is the one that stands at its index
 pub name-read : (k : Kind) (s : List ℕ) (i m j r : ℕ) (e : Entry k) (b : Block) → run section s m ≡ accepted r b → run (entry k i) s m ≡ accepted j e → e .name ≡ getD (b .names) i []
 unfolding entry entryIn
 name-read k s i m j r e b q h =
@@ -173,7 +182,19 @@ name-read k s i m j r e b q h =
 -- a section has a name for each entry
 pub section-counted : (s : List ℕ) (m j : ℕ) (b : Block) → run section s m ≡ accepted j b → length (b .names) ≡ b .count
 unfolding section
-section-counted s m j b h = let w = accepted-first _ _ s m j b h in lists-counted 8 4 s (w .0) j b (w .3) .1
+section-counted s m j b h = let w = accepted-first _ _ s m j b h in block-even 8 4 s (w .0) j b (w .3) .names
+
+-- an entry's name has sixteen bytes
+pub name-sixteen : (k : Kind) (s : List ℕ) (i m : ℕ) (e : Entry k) → run (entryOf k i) s 0 ≡ accepted m e → length (e .name) ≡ 16
+unfolding entry entryIn section
+name-sixteen k s i m e h =
+    let a = after-stamp k s i m e h in
+    let b = accepted-first section (entryIn k i) s (a .0) m e (a .1) in
+    let w = accepted-first _ _ s (a .0) (b .0) (b .1) (b .2) in
+    let v = block-even 8 4 s (w .0) (b .0) (b .1) (w .3) in
+    let c = accepted-first (unless (ltb i (b .1 .count)) 9) _ s (b .0) m e (b .3) in
+    let l = ltb-true i (b .1 .count) (test-held _ 9 s (b .0) (c .0) (c .1) (c .2)) in
+    ap length (name-read k s i (a .0) m (b .0) e (b .1) (b .2) (a .1)) ∙ each-at _ (b .1 .names) [] (v .sixteen) i (omega (arith, v .names))
 
 -- ---- what the code of container.rt finds
 

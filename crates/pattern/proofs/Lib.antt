@@ -1,4 +1,5 @@
 pub mod PatternLaws
+pub mod HeldLaws
 pub mod FindLaws
 pub mod FewLaws
 pub mod NumberLaws

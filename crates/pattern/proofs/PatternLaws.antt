@@ -1,25 +1,25 @@
 -- A pattern entry's keys, its tracks and its run, by what the entry's bytes hold. Assumes nothing.
 use Prim.Native.Nat.{ℕ, suc, _+_, _-_, _*_, max, _≤_, _<_}
-use mathlib.Core.Bool.{Bool, true, false, and-false}
-use mathlib.Core.List.{List, [], _∷_}
+use mathlib.Core.Bool.{Bool, true, false, _&&_, and-false, and-assoc}
+use mathlib.Core.List.{List, [], _∷_, _++_}
 use mathlib.Core.Logic.{⊎-elim}
-use mathlib.Core.Path.{_≡_, refl, sym, ap, subst, _∙_}
+use mathlib.Core.Path.{_≡_, refl, sym, ap, _∙_}
 use native.Mathlib.Nat.{add-zero}
 use native.Mathlib.Numerals.{add-one}
 use native.Mathlib.Omega.{arith}
 use borrow.Author.Tests.{lt-ltb, le-ltb}
+use lib.Dec.{ltb}
 use lib.ListN.{length, take, drop, getD, drop-of-length-le}
 use lib.Seq.{drop-cons}
 use Rattle.util.specs.View.{wordAt, view}
 use Rattle.util.specs.declared.cur.Tally.{Tally}
 use Rattle.util.specs.declared.cur.Tally.the-variants.{Whole, Refused}
-use Rattle.util.specs.Reader.{Reader, done, accepted, refused, run, bind, word, each, unless}
+use Rattle.util.specs.Reader.{Reader, done, accepted, refused, run, bind, each, unless}
 use Rattle.util.specs.ReaderCode.{tallyOf}
 use Rattle.util.specs.Sums.{total}
 use Rattle.util.proofs.Cut.{le-or-lt, had, short, past, no-further}
-use Rattle.util.proofs.Calls.{accepted-first}
-use Rattle.util.proofs.ReadsLaws.{goes-on, stops, done-is, one-value, not-both}
-use Rattle.util.proofs.Each.{counted-of, uncounted-of, from-zero, each-read, items-read}
+use Rattle.util.proofs.ReadsLaws.{goes-on, stops, one-value, not-both}
+use Rattle.util.proofs.Each.{counted-of, uncounted-of, from-zero, items-read}
 use Rattle.util.proofs.ViewLaws.{word-part, view-there, view-length, view-take}
 use Rattle.info_block.specs.declared.InfoBlock.{InfoBlock}
 use Rattle.info_block.specs.declared.BlockRead.{BlockRead}
@@ -27,7 +27,6 @@ use Rattle.pattern.specs.declared.ItemList.{ItemList}
 use Rattle.pattern.specs.declared.Pattern.{Pattern as Known}
 use Rattle.info_block.specs.InfoBlock.{Block, infoBlock}
 use Rattle.info_block.specs.InfoBlockCode.{blockAt, BlockReads}
-use Rattle.info_block.proofs.InfoBlockLaws.{lists-counted}
 use Rattle.pattern.specs.Pattern.{Key, Track, Pattern, keyCount, keyOf, inside, track, pattern, firstLater, choice}
 use Rattle.pattern.specs.PatternCode.{namesMean, ListedAt, WholePattern}
 
@@ -39,6 +38,14 @@ keyAt s p = record { frame = wordAt 2 s p; texture = wordAt 1 s (p + 2); palette
 
 pub key-there : (s : List ℕ) (p : ℕ) → keyOf (take 4 (drop p s)) ≡ keyAt s p
 key-there s p = rw (word-part 2 4 p 0 s (omega arith), word-part 1 4 p 2 s (omega arith), word-part 1 4 p 3 s (omega arith), add-zero p) refl
+
+-- keys are inside where those before and those after are
+pub inside-append : (textures palettes : ℕ) (xs ys : List Key) → inside textures palettes (xs ++ ys) ≡ inside textures palettes xs && inside textures palettes ys
+unfolding inside
+inside-append textures palettes [] ys = refl
+inside-append textures palettes (x ∷ xs) ys =
+    let one = ltb (x .texture) textures && ltb (x .palette) palettes in
+    ap (λ (b : Bool). one && b) (inside-append textures palettes xs ys) ∙ sym (and-assoc one (inside textures palettes xs) (inside textures palettes ys))
 
 module _ (s : List ℕ) (place count : ℕ) where
   abbrev pub keys : List Key
@@ -153,21 +160,21 @@ module _ (s : List ℕ) (t p : ItemList) (et : ListedAt s 8 1 6 t) (ep : ListedA
   palettes-short h = rw (← ep .place, ← ep .count) (past _ _ _ (past _ _ _ (past _ _ _ (past _ _ _ (past _ _ _ (past _ _ _ (past _ _ _ (short _ _ _ h))))))))
 
   -- the entry that some tracks make, and what follows its info block
-  abbrev heldOf : Block → List Track → Pattern
+  abbrev pub heldOf : Block → List Track → Pattern
   heldOf block tracks = record { frames = wordAt 2 s 4; textures = namesMean t; palettes = namesMean p; names = block .names; tracks = tracks }
 
-  abbrev tracksOf : Block → Reader (List Track)
+  abbrev pub tracksOf : Block → Reader (List Track)
   tracksOf block = each (track (t .count) (p .count)) (block .datums)
 
-  abbrev afterBlock : Block → Reader Pattern
+  abbrev pub afterBlock : Block → Reader Pattern
   afterBlock block = bind (tracksOf block) (λ tracks. done (heldOf block tracks))
 
   -- how far the header and the names reach
-  abbrev before : ℕ
+  abbrev pub before : ℕ
   before = max (max 12 (t .place + 16 * t .count)) (p .place + 16 * p .count)
 
   module _ (h : 12 ≤ length s) (ht : t .place + 16 * t .count ≤ length s) (hp : p .place + 16 * p .count ≤ length s) where
-    names-had : run pattern s 0 ≡ run (bind (infoBlock 12 8) afterBlock) s before
+    pub names-had : run pattern s 0 ≡ run (bind (infoBlock 12 8) afterBlock) s before
     unfolding run bind pattern
     names-had =
         rw (← et .place, ← et .count, ← ep .place, ← ep .count)
@@ -233,22 +240,3 @@ module _ (s : List ℕ) (a : Known) (w : WholePattern s a) where
 
       pub track-of : getD (w .held .tracks) i d ≡ record { place = l .place; keys = keys s (l .place) (l .count) }
       track-of = track-is _ _ s datum 0 l at _ _ (tracks-are .1 i d h .1)
-
--- there is a track for each name
-pub track-for-name : (s : List ℕ) (m j : ℕ) (v : Pattern) → run pattern s m ≡ accepted j v → length (v .tracks) ≡ length (v .names)
-unfolding pattern
-track-for-name s m j v e =
-    let w = accepted-first _ _ s m j v e in
-    let w = accepted-first _ _ s _ j v (w .3) in
-    let textures = accepted-first (word 6 1) _ s _ j v (w .3) in
-    let palettes = accepted-first (word 7 1) _ s _ j v (textures .3) in
-    let w = accepted-first _ _ s _ j v (palettes .3) in
-    let w = accepted-first _ _ s _ j v (w .3) in
-    let w = accepted-first _ _ s _ j v (w .3) in
-    let w = accepted-first _ _ s _ j v (w .3) in
-    let d = accepted-first (infoBlock 12 8) _ s (w .0) j v (w .3) in
-    let a = accepted-first (each (track (textures .1) (palettes .1)) (d .1 .datums)) _ s (d .0) j v (d .3) in
-    let q = done-is _ s (a .0) j v (a .3) in
-    let c = lists-counted 12 8 s (w .0) (d .0) (d .1) (d .2) in
-    let l : length (a .1) ≡ length (d .1 .names) = each-read (track (textures .1) (palettes .1)) s (d .1 .datums) (d .0) (a .0) (a .1) (a .2) .0 ∙ (c .0 ∙ sym (c .1)) in
-    subst (λ (x : Pattern). length (x .tracks) ≡ length (x .names)) q l

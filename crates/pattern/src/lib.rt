@@ -66,7 +66,7 @@ fn key_at(s: &[u8], place: usize, k: usize) -> PatternKeyframe
 }
 
 // Whether each key's texture and palette stand in their own lists.
-fn keys_inside(s: &[u8], place: usize, count: usize, textures: usize, palettes: usize) -> bool
+pub fn keys_inside(s: &[u8], place: usize, count: usize, textures: usize, palettes: usize) -> bool
     requires { ⌜ place + 4 * count ≤ length (now s) ⌝ }
     ensures { λ r. ⌜ r ≡ inside textures palettes (view 4 keyOf count (drop place (now (s .entry)))) ⌝ }
 {

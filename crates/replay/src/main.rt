@@ -4,7 +4,8 @@
 // The list is how many calls there are, in two bytes; each call in 33 bytes: its code, entry, object or track in two bytes, axis or channel,
 // the frame in two bytes, the place (or a value's index) and the room of a lent slice, a name of sixteen bytes, the section's place in the
 // list and its length, four bytes each; and then the sections. A material's two sections stand as one, with the length of the first in the
-// place of an object or track and the entry of the second in that of an axis or channel.
+// place of an object or track and the entry of the second in that of an axis or channel. In the place of a section that is to be written stand its
+// lists as one, with the lengths of the first three in those of an object or track, of an axis or channel, and of a place.
 mod print;
 mod stored;
 

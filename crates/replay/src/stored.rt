@@ -19,6 +19,7 @@ use exports::motion_scale_value;
 use exports::motion_texture_names;
 use exports::motion_translation_curve;
 use exports::motion_uv_matrix;
+use exports::motion_write_pattern;
 use util::view::word16;
 use words::CURVE_WORDS;
 ghost use Prim.Native.Nat.{_≤_};
@@ -246,6 +247,39 @@ fn run_material(both: &[u8], c: Call) {
     print_material(n, &shift, &choice);
 }
 
+// A section that is written of four lists, one behind the other: `index` is the length of the texture names, `part` that of the palette names,
+// `place` that of the tracks, and the rest are the keys.
+fn written(lists: &[u8], c: Call, out: &mut [u8], count: &mut [u64; 1]) -> u32 {
+    let name = c.name;
+    let room = at_most(c.room, out.len());
+    let textures = at_most(c.index, lists.len());
+    let others = &lists[textures..];
+    let palettes = at_most(c.part, others.len());
+    let last = &others[palettes..];
+    let tracks = at_most(c.place, last.len());
+    motion_write_pattern(
+        &name,
+        c.frame,
+        &lists[0..textures],
+        &others[0..palettes],
+        &last[0..tracks],
+        &last[tracks..],
+        &mut out[0..room],
+        count,
+    )
+}
+
+fn print_written(n: u32, count: &[u64; 1], out: &[u8; 240]) {
+    print(n, count, &[], out);
+}
+
+fn run_written(lists: &[u8], c: Call) {
+    let mut out = [BYTE; 240];
+    let mut count = [WORD; 1];
+    let n = written(lists, c, &mut out, &mut count);
+    print_written(n, &count, &out);
+}
+
 // The call that 25 bytes stand for, on a section.
 pub fn run(s: &[u8], call: &[u8])
     requires { ⌜ 25 ≤ length (now call) ⌝ }
@@ -263,6 +297,7 @@ pub fn run(s: &[u8], call: &[u8])
         16 => print(motion_check(s, c.entry), &[], &[], &[]),
         17 => run_scale_value(s, c),
         18 => run_material(s, c),
+        19 => run_written(s, c),
         _ => run_two(s, c),
     }
 }

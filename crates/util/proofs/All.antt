@@ -1,7 +1,7 @@
 -- What holds of every value that a reader gives on bytes. Assumes nothing.
 use Prim.Native.Nat.{ℕ, zero, suc, _+_, _*_, _/_, _%_, _^_, max, _≤_, _<_}
 use mathlib.Core.Bool.{Bool, true, false, cond}
-use mathlib.Core.List.{List, [], _∷_}
+use mathlib.Core.List.{List, [], _∷_, _++_}
 use mathlib.Core.Path.{_≡_, refl, ap, subst}
 use native.Mathlib.Nat.{pow-suc, one-le-pow}
 use native.Mathlib.Omega.{arith}
@@ -26,6 +26,17 @@ bytes-take zero s h i = lit< tt
 bytes-take (suc n) [] h i = lit< tt
 bytes-take (suc n) (b ∷ s) h zero = h 0
 bytes-take (suc n) (b ∷ s) h (suc i) = bytes-take n s (λ j. h (suc j)) i
+
+pub bytes-append : (s t : List ℕ) → Bytes s → Bytes t → Bytes (s ++ t)
+bytes-append [] t h k i = k i
+bytes-append (b ∷ s) t h k zero = h 0
+bytes-append (b ∷ s) t h k (suc i) = bytes-append s t (λ j. h (suc j)) k i
+
+pub bytes-little : (n x : ℕ) → Bytes (littleBytes n x)
+unfolding littleBytes
+bytes-little zero x i = lit< tt
+bytes-little (suc n) x zero = omega arith
+bytes-little (suc n) x (suc i) = bytes-little n (x / 256) i
 
 take-le : (n : ℕ) (s : List ℕ) → length (take n s) ≤ n
 take-le n s = simp length-take (omega arith)
@@ -89,7 +100,7 @@ module _ {A : Type 0} where
   Many P n xs = (length xs ≡ n) × Each P xs
 
   -- n items, where P holds of what is read from bytes
-  view-many : (P : A → Type 0) (size : ℕ) (read : List ℕ → A) → ((bs : List ℕ) → Bytes bs → P (read bs))
+  pub view-many : (P : A → Type 0) (size : ℕ) (read : List ℕ → A) → ((bs : List ℕ) → Bytes bs → P (read bs))
       → (n : ℕ) (bs : List ℕ) → Bytes bs → Many P n (view size read n bs)
   unfolding view
   view-many P size read r zero bs h = (refl, tt)

@@ -18,6 +18,7 @@ use Rattle.util.specs.Place.{raised}
 use Rattle.util.proofs.Place.{run-raised}
 use Rattle.util.proofs.Calls.{after, run-bind, accepted-first}
 use Rattle.util.proofs.ViewLaws.{view-length, view-there}
+use Rattle.util.proofs.All.{Each}
 
 -- what follows an outcome, from its reach and its count
 abbrev onward : Tally → (ℕ → ℕ → Tally) → Tally
@@ -142,6 +143,17 @@ module _ {A B : Type 0} (f : A → Reader B) (s : List ℕ) where
           → (k : ℕ) × (run (f (getD (x ∷ xs) i d)) s 0 ≡ accepted k (getD (y ∷ zs) i d'))
       pick-item zero d d' x xs y zs h g l = h
       pick-item (suc i) d d' x xs y zs h g l = g i d d' (omega arith)
+
+  -- where P holds of every item, Q holds of every value that is read
+  pub each-gives : (P : A → Type 0) (Q : B → Type 0) → ((x : A) (m j : ℕ) (y : B) → P x → run (f x) s m ≡ accepted j y → Q y)
+      → (xs : List A) (m j : ℕ) (ys : List B) → Each P xs → run (each f xs) s m ≡ accepted j ys → Each Q ys
+  unfolding each run
+  each-gives P Q g [] m j ys h e = let q : [] ≡ ys = cc in subst (Each Q) q tt
+  each-gives P Q g (x ∷ xs) m j ys h e =
+      let w = accepted-first (f x) (λ y. bind (each f xs) (λ zs. done (y ∷ zs))) s m j ys e in
+      let v = accepted-first (each f xs) (λ zs. done (w .1 ∷ zs)) s (w .0) j ys (w .3) in
+      let q : w .1 ∷ v .1 ≡ ys = cc in
+      subst (Each Q) q (g x m (w .0) (w .1) (h .0) (w .2), each-gives P Q g xs (w .0) (v .0) (v .1) (h .1) (v .2))
 
 -- ---- the readers of items that stand in the section at a position, followed by index
 

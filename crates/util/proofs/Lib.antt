@@ -13,3 +13,4 @@ pub mod SumsLaws
 pub mod WritesLaws
 pub mod ReadsLaws
 pub mod BelowLaws
+pub mod Fields

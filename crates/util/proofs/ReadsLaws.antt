@@ -1,9 +1,10 @@
 -- From one reader's answer to another's. Assumes nothing.
 use Prim.Native.Nat.{ℕ}
+use mathlib.Core.Bool.{Bool, true, false}
 use mathlib.Core.List.{List}
-use mathlib.Core.Path.{_≡_, subst, _∙_}
+use mathlib.Core.Path.{_≡_, refl, subst, _∙_}
 use native.Mathlib.Omega.{arith}
-use Rattle.util.specs.Reader.{Reader, done, Outcome, accepted, refused, run, bind}
+use Rattle.util.specs.Reader.{Reader, done, Outcome, accepted, refused, run, bind, unless}
 use Rattle.util.specs.ReaderCode.{Reads}
 use Rattle.util.proofs.Calls.{after, run-bind-as}
 
@@ -31,6 +32,12 @@ module _ {A B : Type 0} (r : Reader A) (f : A → Reader B) (s : List ℕ) (m : 
 pub done-is : {A : Type 0} (a : A) (s : List ℕ) (m j : ℕ) (b : A) → run (done a) s m ≡ accepted j b → a ≡ b
 unfolding run
 done-is a s m j b e = cc
+
+-- a test that was passed holds
+pub test-held : (b : Bool) (n : ℕ) (s : List ℕ) (m j : ℕ) (u : Unit {0}) → run (unless b n) s m ≡ accepted j u → b ≡ true
+unfolding run unless
+test-held true n s m j u e = refl
+test-held false n s m j u e = let z : _≡_ {A = ℕ} 0 1 = cc in absurd (omega arith)
 
 module _ {A : Type 0} {o : Outcome A} where
   -- an outcome has one value, and is not refused too

@@ -1,10 +1,10 @@
 -- Sums: by index, and how large they are at most. Assumes nothing.
 use Prim.Native.Nat.{ℕ, zero, suc, _+_, _*_, _≤_, _<_}
-use mathlib.Core.List.{List, [], _∷_}
+use mathlib.Core.List.{List, [], _∷_, map}
 use mathlib.Core.Path.{_≡_, refl, sym, ap, _∙_}
 use native.Mathlib.Nat.{add-zero, zero-add, add-assoc}
 use native.Mathlib.Omega.{arith}
-use lib.ListN.{length, getD}
+use lib.ListN.{length, take, getD}
 use Rattle.util.specs.declared.cur.Tally.{Tally}
 use Rattle.util.specs.Reader.{Reader, Outcome, accepted, refused, run}
 use Rattle.util.specs.ReaderCode.{tallyOf}
@@ -34,6 +34,13 @@ total-sum g d (x ∷ xs) f h =
     let b : f 0 ≡ g x = h 0 (omega arith) in
     let c = sum-first (length xs) f in
     cc
+
+-- the sum over the first k items, by what f gives of each
+pub total-take : {A : Type 0} (f : A → ℕ) (k : ℕ) (xs : List A) → total f (take k xs) ≡ total (λ n. n) (take k (map f xs))
+unfolding total
+total-take f zero xs = refl
+total-take f (suc k) [] = refl
+total-take f (suc k) (x ∷ xs) = ap (λ (n : ℕ). f x + n) (total-take f k xs)
 
 -- ---- where each is at most b
 

@@ -1,14 +1,14 @@
 -- Laws of words, read and written, and of `same`. Assumes nothing.
 use Prim.Native.Nat.{ℕ, zero, suc, _+_, _-_, _*_, _/_, _%_, _^_, _≤_, _<_}
 use mathlib.Core.Bool.{Bool, true, false, cond, false≢true}
-use mathlib.Core.List.{List, [], _∷_, map}
+use mathlib.Core.List.{List, [], _∷_, _++_, map}
 use mathlib.Core.Path.{_≡_, refl, sym, ap, _∙_}
 use native.Mathlib.Nat.{mul-zero, mul-suc, add-comm, zero-add, suc-add, add-zero, pow-suc, mul-add, mul-right-comm, mul-comm, add-assoc}
 use native.Mathlib.Omega.{arith}
 use borrow.Author.Tests.{eqb-true, eq-eqb, ne-eqb}
 use lib.Dec.{eqb}
 use lib.ListN.{length, set, take, drop, getD}
-use lib.Seq.{sets, drop-cons, drop-drop, take-take, take-nil, getD-take}
+use lib.Seq.{sets, drop-cons, drop-drop, take-take, take-nil, take-append-le, getD-take}
 use native.Mathlib.Numerals.{add-one}
 use Rattle.util.proofs.Cut.{take-drop-take}
 use Rattle.util.specs.View.{little, littleBytes, wordAt, view, same}
@@ -116,6 +116,18 @@ module _ {A : Type 0} (size : ℕ) (read : List ℕ → A) where
       let q : size * suc n ≡ size + size * n = mul-suc size n ∙ add-comm (size * n) size in
       rw q (rw (take-take size (size + size * n) bs (omega arith), drop-take size (size * n) bs, view-take n (drop size bs)) refl)
 
+  -- .. so what follows the bytes does not matter
+  pub view-front : (n : ℕ) (b t : List ℕ) → size * n ≤ length b → view size read n (b ++ t) ≡ view size read n b
+  view-front n b t h = sym (view-take n (b ++ t)) ∙ ap (view size read n) (take-append-le (size * n) b t h) ∙ view-take n b
+
+  -- some items, and the others
+  pub view-add : (a n : ℕ) (b : List ℕ) → view size read (a + n) b ≡ view size read a b ++ view size read n (drop (size * a) b)
+  unfolding view
+  view-add zero n b = rw (zero-add n, mul-zero size) refl
+  view-add (suc a) n b =
+      let q : size * suc a ≡ size + size * a = mul-suc size a ∙ add-comm (size * a) size in
+      rw (suc-add a n, q, ← drop-drop (size * a) size b) (ap (λ (l : List A). read (take size b) ∷ l) (view-add a n (drop size b)))
+
 -- what f gives for each item
 pub view-map : {A B : Type 0} (f : A → B) (size : ℕ) (read : List ℕ → A) (n : ℕ) (bs : List ℕ) → map f (view size read n bs) ≡ view size (λ item. f (read item)) n bs
 unfolding view
@@ -141,24 +153,24 @@ same-one s b k h = rw (getD-take k s 0 0 h) (whole (eqb (getD s 0 0) (getD b 0 0
     whole true = refl
     whole false = refl
 
--- ---- eight bytes, written one by one
+-- ---- the bytes of a word, written one by one
 
-pub byte-written : (xs : List ℕ) (at i n : ℕ) → i < 8
-    → sets xs (at + i) (littleBytes (8 - i) n) ≡ sets (set xs (at + i) (n % 256)) (at + (i + 1)) (littleBytes (8 - (i + 1)) (n / 256))
+pub byte-written : (n : ℕ) (xs : List ℕ) (at i x : ℕ) → i < n
+    → sets xs (at + i) (littleBytes (n - i) x) ≡ sets (set xs (at + i) (x % 256)) (at + (i + 1)) (littleBytes (n - (i + 1)) (x / 256))
 unfolding littleBytes
-byte-written xs at i n h =
-    ap (λ (k : ℕ). sets xs (at + i) (littleBytes k n)) (left i h)
-    ∙ ap (λ (j : ℕ). sets (set xs (at + i) (n % 256)) j (littleBytes (8 - (i + 1)) (n / 256))) (next at i)
+byte-written n xs at i x h =
+    ap (λ (k : ℕ). sets xs (at + i) (littleBytes k x)) (left n i h)
+    ∙ ap (λ (j : ℕ). sets (set xs (at + i) (x % 256)) j (littleBytes (n - (i + 1)) (x / 256))) (next at i)
   where
-    left : (i : ℕ) → i < 8 → 8 - i ≡ suc (8 - (i + 1))
-    left i h = omega arith
+    left : (n i : ℕ) → i < n → n - i ≡ suc (n - (i + 1))
+    left n i h = omega arith
 
     next : (at i : ℕ) → suc (at + i) ≡ at + (i + 1)
     next at i = omega arith
 
-pub bytes-written : (xs : List ℕ) (at i n : ℕ) → 8 ≤ i → xs ≡ sets xs (at + i) (littleBytes (8 - i) n)
+pub bytes-written : (n : ℕ) (xs : List ℕ) (at i x : ℕ) → n ≤ i → xs ≡ sets xs (at + i) (littleBytes (n - i) x)
 unfolding littleBytes
-bytes-written xs at i n h = sym (ap (λ (k : ℕ). sets xs (at + i) (littleBytes k n)) (none i h))
+bytes-written n xs at i x h = sym (ap (λ (k : ℕ). sets xs (at + i) (littleBytes k x)) (none n i h))
   where
-    none : (i : ℕ) → 8 ≤ i → 8 - i ≡ 0
-    none i h = omega arith
+    none : (n i : ℕ) → n ≤ i → n - i ≡ 0
+    none n i h = omega arith

@@ -1,11 +1,12 @@
 -- Items written into a list from a place onward. Assumes nothing.
-use Prim.Native.Nat.{ℕ, suc, _+_, _-_, _≤_}
+use Prim.Native.Nat.{ℕ, suc, _+_, _-_, _≤_, _<_}
 use mathlib.Core.List.{List, [], _∷_, _++_, append-nil}
 use mathlib.Core.Path.{_≡_, refl, sym, ap, _∙_}
 use native.Mathlib.Nat.{le-refl, add-zero, suc-add, add-suc}
+use native.Mathlib.Numerals.{add-one}
 use native.Mathlib.Omega.{arith}
-use lib.ListN.{length, set, take, drop, length-drop, take-append-drop, drop-of-length-le}
-use lib.Seq.{sets, take-all, length-take-le}
+use lib.ListN.{length, set, take, drop, getD, length-drop, take-append-drop, drop-of-length-le}
+use lib.Seq.{sets, sets-eq, drop-cons, take-all, length-take-le}
 
 module _ {A : Type 0} where
   -- writing x and then y is writing x ++ y
@@ -42,3 +43,21 @@ module _ {A : Type 0} where
       ∙ sets-part (take a xs) (drop a xs) 0 vs
       ∙ ap (λ (t : List A). sets t (length (take a xs) + 0) vs) (take-append-drop a xs)
       ∙ ap (λ (k : ℕ). sets xs k vs) (add-zero (length (take a xs)) ∙ length-take-le a xs h)
+
+  -- item i of b is written: the others are still to do
+  pub item-written : (b l : List A) (at i : ℕ) (x d : A) → i < length b → x ≡ getD b i d → sets l (at + i) (drop i b) ≡ sets (set l (at + i) x) (at + (i + 1)) (drop (i + 1) b)
+  item-written b l at i x d h e =
+      rw (drop-cons b i d h, e, add-one i) (ap (λ (k : ℕ). sets (set l (at + i) (getD b i d)) k (drop (suc i) b)) (next at i))
+    where
+      next : (at i : ℕ) → suc (at + i) ≡ at + suc i
+      next at i = omega arith
+
+  pub items-written : (b l : List A) (at i : ℕ) → length b ≤ i → l ≡ sets l (at + i) (drop i b)
+  items-written b l at i h = rw (drop-of-length-le b h) refl
+
+  -- what was written from the start on, and the rest as it was
+  pub sets-front : (l b : List A) → length b ≤ length l → sets l 0 b ≡ b ++ drop (length b) l
+  sets-front l b h = sets-eq b l 0 (omega arith) ∙ ap (λ (k : ℕ). b ++ drop k l) (zero-plus (length b))
+    where
+      zero-plus : (n : ℕ) → 0 + n ≡ n
+      zero-plus n = omega arith

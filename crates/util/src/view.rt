@@ -57,14 +57,35 @@ fn low_byte(n: u64) -> u8
     (n % 256) as u8
 }
 
+// The n low bytes of x, from `at` on: answers where the next byte goes.
+pub fn put_word(out: &mut [u8], at: usize, n: usize, x: u64) -> usize
+    requires { ⌜ at + n ≤ length (now out) ⌝ }
+    ensures { λ r. ⌜ (r ≡ at + n) × (now (out .exit) ≡ sets (now (out .entry)) at (littleBytes n x)) ⌝ }
+{
+    let mut rest = x;
+    for i in 0..n {
+        out[at + i] = low_byte(rest);
+        rest = rest / 256;
+    }
+    at + n
+}
+
 // The eight bytes of n, from `at` on.
 pub fn put64(out: &mut [u8], at: usize, n: u64)
     requires { ⌜ at + 8 ≤ length (now out) ⌝ }
     ensures { λ _. ⌜ now (out .exit) ≡ sets (now (out .entry)) at (littleBytes 8 n) ⌝ }
 {
-    let mut rest = n;
-    for i in 0..8usize {
-        out[at + i] = low_byte(rest);
-        rest = rest / 256;
+    put_word(out, at, 8, n);
+}
+
+// Bytes as they are, from `at` on: answers where the next byte goes.
+pub fn put_bytes(out: &mut [u8], at: usize, bytes: &[u8]) -> usize
+    requires { ⌜ at + length (now bytes) ≤ length (now out) ⌝ }
+    ensures { λ r. ⌜ (r ≡ at + length (now (bytes .entry))) × (now (out .exit) ≡ sets (now (out .entry)) at (now (bytes .entry))) ⌝ }
+{
+    let n = bytes.len();
+    for i in 0..n {
+        out[at + i] = bytes[i];
     }
+    at + n
 }

@@ -4,6 +4,7 @@ use mathlib.Core.List.{List, [], _∷_}
 use mathlib.Core.Option.{Option, none, some}
 use mathlib.Core.Path.{_≡_}
 use lib.Ieee.{Float}
+use lib.ListN.{length}
 use lib.Seq.{sets}
 use Rattle.util.specs.View.{wordAt}
 use Rattle.util.specs.Reader.{Outcome, accepted, refused, Verdict, answered, denied, number}
@@ -15,6 +16,8 @@ use Rattle.nitro.specs.Container.{EntryRecord}
 use Rattle.gltf.specs.Curve.{Span, noSpan, span, Resampled}
 use Rattle.calls.specs.Calls.{Listed, Chosen}
 use Rattle.calls.specs.Material.{Material}
+use Rattle.pattern_section.specs.Written.{Lent}
+use Rattle.writing.specs.WritePattern.{writePattern, sliceAfter}
 
 -- ---- what a call leaves in an array that it is lent: the items of its answer, from the array's start on; the old contents where it refuses
 
@@ -101,3 +104,14 @@ resampledWords r = spanWords (r .over) (r .frames)
 abbrev pub foundWords : Option ℕ → List ℕ
 foundWords none = 0 ∷ []
 foundWords (some i) = 1 ∷ i ∷ []
+
+-- ---- a section that is written
+
+-- how many bytes it has
+abbrev pub countWords : ℕ → List ℕ
+countWords n = n ∷ []
+
+-- the call with what is lent to be written: what it answers, and the slice and the word before and after it
+pub record WritesPattern (l : Lent) (r : ℕ) (before after word-before word-after : List ℕ) : Type 0 where
+  pub count : Writes countWords (writePattern l (length before)) r word-before word-after
+  pub slice : after ≡ sliceAfter l before (writePattern l (length before))

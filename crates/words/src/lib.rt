@@ -18,6 +18,7 @@ use trs::CurveRecord;
 use trs::RotationAnswer;
 use trs::RotationRecord;
 use trs::ScaleRecord;
+use writing::Writing;
 ghost use mathlib.Core.Path.{_≡_};
 ghost use mathlib.Core.List.{List, [], _∷_};
 ghost use lib.Ieee.{Float};
@@ -29,7 +30,8 @@ ghost use Rattle.trs.specs.TrsCode.{curveMeans, scaleMeans, rotationRecordMeans
 ghost use Rattle.nitro.specs.EntryCode.{checkMeans};
 ghost use Rattle.gltf.specs.CurveCode.{resamplingMeans};
 ghost use Rattle.calls.specs.AnswersCode.{listAnswerMeans, choiceAnswerMeans, matrixAnswerMeans, foundMeans, materialAnswerMeans};
-ghost use Rattle.words.specs.Words.{Writes, nameWords, checked, recordWords, curveWords, curveFloats, oneFloat, twoFloats, nineFloats, sixteenFloats, listedWords, chosenWords, shiftFloats, materialWords, resampledWords, foundWords};
+ghost use Rattle.writing.specs.WritingCode.{writingMeans};
+ghost use Rattle.words.specs.Words.{Writes, nameWords, checked, recordWords, curveWords, curveFloats, oneFloat, twoFloats, nineFloats, sixteenFloats, listedWords, chosenWords, shiftFloats, materialWords, resampledWords, countWords, foundWords};
 
 // The words that a curve's record may take.
 pub const CURVE_WORDS: usize = 8;
@@ -64,6 +66,19 @@ pub fn put_found(f: Found, out: &mut [u64; 2]) -> u32
         Found::At(i) => {
             out[0] = 1;
             out[1] = i as u64;
+            0
+        }
+    }
+}
+
+// How many bytes were written.
+pub fn put_count(w: Writing, out: &mut [u64; 1]) -> u32
+    ensures { λ r. ⌜ Writes countWords (writingMeans w) r (now (out .entry)) (now (out .exit)) ⌝ }
+{
+    match w {
+        Writing::Refused(n) => n as u32,
+        Writing::Written(n) => {
+            out[0] = n as u64;
             0
         }
     }

@@ -1,8 +1,9 @@
-//! compare [SEED] [SECTIONS]: holds every call to the Rust, on sections of every kind, and tries what a cut does.
+//! compare [SEED] [SECTIONS]: holds every call to the Rust, on sections of every kind, tries what a cut does, and reads what is written.
 //! compare --store DIR: writes the list that crates/replay runs, DIR/stdin, and the Rust's answers, DIR/stdout.
 use compare::agree::{self, Agreed, Counts};
+use compare::lists::Lists;
 use compare::rng::Rng;
-use compare::{cuts, materials, replay, sections};
+use compare::{cuts, lists, materials, replay, sections, writes};
 use std::io::Write;
 use std::panic::{catch_unwind, AssertUnwindSafe};
 
@@ -10,6 +11,9 @@ struct Run {
     seed: u64,
     rng: Rng,
     counts: Counts,
+    /// Of what is written. It has numbers of its own, so that the sections stay the same.
+    own: Rng,
+    written: writes::Counts,
 }
 
 impl Run {
@@ -38,19 +42,37 @@ impl Run {
         self.held_pair("cuts of two sections", srt, pat, agreed);
     }
 
+    /// Lists that are to be written into so many bytes.
+    fn write(&mut self, what: &str, lists: &Lists, room: usize) {
+        let agreed = caught(|| writes::lists(&lists.lent(), room, &mut self.own, &mut self.written));
+        if let Err(message) = agreed {
+            self.mismatch(what, &message, &format!("into {room} bytes\n{lists}"));
+        }
+    }
+
+    /// A PAT0 section whose entries are written again.
+    fn write_again(&mut self, what: &str, s: &[u8]) {
+        let agreed = caught(|| writes::again(s, &mut self.own, &mut self.written));
+        self.held(what, s, agreed);
+    }
+
     fn held_pair(&self, what: &str, srt: &[u8], pat: &[u8], agreed: Agreed) {
         self.held(what, srt, agreed.map_err(|m| format!("{m}\nwith the PAT0 section {}", hex(pat))));
     }
 
     fn held(&self, what: &str, s: &[u8], agreed: Agreed) {
         if let Err(message) = agreed {
-            println!("\nmismatch in the {what}, seed {}\n{message}\nsection {}", self.seed, hex(s));
-            std::process::exit(1);
+            self.mismatch(what, &message, &format!("section {}", hex(s)));
         }
+    }
+
+    fn mismatch(&self, what: &str, message: &str, input: &str) {
+        println!("\nmismatch in the {what}, seed {}\n{message}\n{input}", self.seed);
+        std::process::exit(1);
     }
 }
 
-/// The bytes of a section; the long ones are the same in every run.
+/// The bytes of a section; the long ones are the same in every run, or in every run with this seed.
 fn hex(s: &[u8]) -> String {
     match s.len() {
         0..=65_536 => s.iter().map(|b| format!("{b:02x}")).collect(),
@@ -67,7 +89,11 @@ fn caught(compare: impl FnOnce() -> Agreed) -> Agreed {
 }
 
 fn progress(c: &Counts) {
-    eprint!("\r{} sections, {} cuts ", c.sections, c.cuts);
+    show(&format!("{} sections, {} cuts", c.sections, c.cuts));
+}
+
+fn show(done: &str) {
+    eprint!("\r{done:<60}");
     let _ = std::io::stderr().flush();
 }
 
@@ -109,7 +135,7 @@ fn main() {
     }
     let seed = number(args.next(), 1) as u64;
     let sections = number(args.next(), 20_000);
-    let mut run = Run { seed, rng: Rng::new(seed), counts: Counts::default() };
+    let mut run = Run { seed, rng: Rng::new(seed), counts: Counts::default(), own: Rng::new(!seed), written: writes::Counts::default() };
 
     // short ones: none, one and two bytes of every value, and three that begin a stamp
     run.section("short sections", &[]);
@@ -212,6 +238,25 @@ fn main() {
     for s in [sections::walk_cycle(1, 4095), sections::scroll(1, 65535)] {
         run.section("longest lists", &s);
     }
+    // patterns to write: at the bounds of each test, half as many from the seed as sections, and entries that are read and written again
+    for (lists, room) in lists::edges(&mut run.own) {
+        run.write("patterns at the bounds", &lists, room);
+    }
+    for k in 0..(sections / 2).max(5_000) {
+        let (lists, room) = lists::any(&mut run.own);
+        run.write("patterns from the seed", &lists, room);
+        if k % 2 == 0 {
+            let s = sections::any_pattern(&mut run.own);
+            run.write_again("patterns written again", &s);
+        }
+        if k % 100 == 0 {
+            let s = lists::shared(k / 100 % 2, &mut run.own);
+            run.write_again("tracks that share their keys", &s);
+        }
+        if k % 2_000 == 0 {
+            show(&format!("{} patterns", run.written.lists));
+        }
+    }
     let c = &run.counts;
     eprintln!();
     println!(
@@ -220,4 +265,15 @@ fn main() {
     );
     println!("sections and entries refused with each number: {}", by_number(&c.refused));
     println!("materials refused with each number: {}", by_number(&c.no_material));
+    let w = &run.written;
+    println!(
+        "written: {} patterns ({} accepted), {} of them entries that were read ({} too long), {} cuts; {} written sections compared as the others",
+        w.lists, w.accepted, w.again, w.too_long, w.cuts, w.compared.sections
+    );
+    println!("patterns refused with each number: {}", by_number(&w.refused));
+    let missing = w.missing();
+    if !missing.is_empty() {
+        println!("{}", missing.join("\n"));
+        std::process::exit(1);
+    }
 }

@@ -3,14 +3,19 @@
 //! The list is how many calls there are, in two bytes; each call in 33 bytes: its code, entry, object or track in two bytes, axis or channel,
 //! the frame in two bytes, the place (or a value's index) and the room of a lent slice, a name of sixteen bytes, the section's place in the
 //! list and its length, four bytes each; and then the sections. A material's two sections stand as one, with the length of the first in the place
-//! of an object or track and the entry of the second in that of an axis or channel. An answer is a line: the number, then every word and every float's bits that the call was
+//! of an object or track and the entry of the second in that of an axis or channel. The lists of a pattern that is written stand as one too, textures,
+//! palettes, tracks and keys: the bytes of the textures in the place of an object or track, those of the palettes in that of an axis or channel, and
+//! those of the tracks in that of a place. An answer is a line: the number, then every word and every float's bits that the call was
 //! lent, as they stand afterwards, in sixteen hex digits, and every byte in two. Where the Rust's answer is one of the intended differences
-//! (9 to 12), document 01's number stands; the second number of a scale's value, which the Rust drops, is read from the bytes by the layout.
+//! (9 to 12), document 01's number stands; the second number of a scale's value, which the Rust drops, is read from the bytes by the layout, and
+//! what is written is the second program's.
 use crate::layout;
+use crate::lists::{self, Lists};
 use crate::materials::Pair;
 use crate::oracle::{self, Entry, Value};
 use crate::rng::Rng;
 use crate::sections;
+use crate::writes;
 use apicula::nitro::animation::Curve;
 
 /// The bytes of a call.
@@ -47,6 +52,7 @@ const MATRIX: u8 = 15;
 const CHECK: u8 = 16;
 const SCALE_VALUE: u8 = 17;
 const MATERIAL: u8 = 18;
+const WRITE: u8 = 19;
 
 /// What stands in the words and floats before a call, and in the bytes. No answer is such a word or float.
 const FILL: u64 = 0x5555_5555_5555_5555;
@@ -96,6 +102,7 @@ impl Call {
             MATRIX => (0, 0, 140),
             CHECK => (0, 0, 0),
             MATERIAL => (3, 2, 0),
+            WRITE => (1, 0, 240),
             _ => (2, 0, 0),
         };
         Lent { words: vec![FILL; words], floats: vec![FILL; floats], bytes: vec![BYTE; bytes] }
@@ -153,10 +160,26 @@ fn put_material(s: &[u8], call: &Call, lent: &mut Lent) -> Result<(), u32> {
     Ok(())
 }
 
+/// The section that is written from lists, one behind the other.
+fn put_written(s: &[u8], call: &Call, lent: &mut Lent) -> Result<(), u32> {
+    let (textures, s) = s.split_at(call.index as usize);
+    let (palettes, s) = s.split_at(call.part as usize);
+    let (tracks, keys) = s.split_at(call.place as usize);
+    let room = (call.room as usize).min(lent.bytes.len());
+    let pattern = motion::Pattern { name: call.name, frames: call.frame, textures, palettes, tracks, keys };
+    let section = writes::expected(&pattern, room)?;
+    put(&mut lent.words, &[section.len() as u64]);
+    put(&mut lent.bytes, &section);
+    Ok(())
+}
+
 /// What the Rust answers, and leaves in what is lent.
 fn answer(s: &[u8], call: &Call, lent: &mut Lent) -> Result<(), u32> {
     if call.code == MATERIAL {
         return put_material(s, call, lent);
+    }
+    if call.code == WRITE {
+        return put_written(s, call, lent);
     }
     let entries = oracle::read(s);
     if let Some(stamp) = call.stamp() {
@@ -286,6 +309,35 @@ fn call(s: &[u8], code: u8, rng: &mut Rng) -> Call {
     }
 }
 
+/// A call that writes lists of so many bytes: textures, palettes and tracks.
+fn write(name: [u8; 16], frames: u16, [textures, palettes, tracks]: [usize; 3], room: usize) -> Call {
+    Call {
+        code: WRITE,
+        index: textures as u16,
+        part: palettes as u8,
+        frame: frames,
+        place: tracks as u8,
+        room: room as u8,
+        name,
+        ..Call::default()
+    }
+}
+
+/// Calls that write small lists, each into some rooms; and one list of 257 names that is taken apart in several ways.
+fn writing_calls() -> Vec<(Vec<u8>, Vec<Call>)> {
+    let mut found = Vec::new();
+    for (lists, rooms) in lists::small() {
+        let Lists { name, frames, textures, palettes, tracks, keys } = lists;
+        let lengths = [&textures, &palettes, &tracks].map(Vec::len);
+        let calls = rooms.into_iter().map(|room| write(name, frames, lengths, room)).collect();
+        found.push(([textures, palettes, tracks, keys].concat(), calls));
+    }
+    let lengths = [[4096, 16, 0], [4096, 0, 0], [4111, 1, 0], [4112, 0, 0], [4095, 17, 0], [4095, 16, 0], [4080, 32, 0], [4080, 0, 20]];
+    let calls = lengths.map(|lengths| write(*b"many\0\0\0\0\0\0\0\0\0\0\0\0", 9, lengths, 240));
+    found.push((Rng::new(257).bytes(16 * 257), calls.to_vec()));
+    found
+}
+
 /// The list and the answers: bytes and lines.
 pub fn stored(sections: usize) -> (Vec<u8>, String) {
     let rng = &mut Rng::new(86);
@@ -387,6 +439,8 @@ pub fn stored(sections: usize) -> (Vec<u8>, String) {
         });
         kept.push(([srt, pat].concat(), calls.to_vec()));
     }
+    // patterns that are written
+    kept.extend(writing_calls());
     let count: usize = kept.iter().map(|(_, calls)| calls.len()).sum();
     let (mut list, mut behind, mut lines) = ((count as u16).to_le_bytes().to_vec(), Vec::new(), String::new());
     for (s, calls) in kept {

@@ -498,6 +498,16 @@ pub fn any(rng: &mut Rng) -> Vec<u8> {
     s
 }
 
+/// A PAT0 section of one to three entries, damaged or not.
+pub fn any_pattern(rng: &mut Rng) -> Vec<u8> {
+    let entries: Vec<_> = (0..1 + rng.below(3)).map(|_| pattern(rng)).collect();
+    let mut s = section(b"PAT0", &entries, rng);
+    for _ in 0..rng.below(3) {
+        damage(&mut s, rng);
+    }
+    s
+}
+
 fn damage(s: &mut Vec<u8>, rng: &mut Rng) {
     if s.is_empty() {
         return;

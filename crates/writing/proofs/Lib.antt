@@ -1,0 +1,4 @@
+pub mod TracksLaws
+pub mod CheckLaws
+pub mod RoundTrip
+pub mod Again

@@ -1,0 +1,5 @@
+pub mod WritePattern
+pub mod WritingCode
+pub mod RoundTrip
+pub mod Again
+pub mod Examples
