@@ -14,9 +14,8 @@ use Rattle.info_block.proofs.WrittenLaws.{block-length, block-back}
 use Rattle.pattern.specs.declared.ItemList.{ItemList}
 use Rattle.pattern.specs.Pattern.{Pattern, keyOf, inside, pattern}
 use Rattle.pattern.specs.PatternCode.{ListedAt}
-use Rattle.pattern.proofs.PatternLaws.{tracksOf, afterBlock, names-had}
-use Rattle.pattern_section.specs.Written as spec
-use Rattle.pattern_section.specs.Written.{Lent, names, keyTotal, textureCount, paletteCount, trackCount, texturePlace, palettePlace, keyPlace, entryLength, trackBlock, entryFields, entryBytes}
+use Rattle.pattern.proofs.PatternLaws.{afterBlock, names-had}
+use Rattle.pattern_section.specs.Written.{Lent, names, keyTotal, textureCount, paletteCount, trackCount, tracksOf, texturePlace, palettePlace, keyPlace, entryLength, trackBlock, entryFields, entryBytes}
 use Rattle.pattern_section.specs.WrittenCode.{Sized}
 use Rattle.pattern_section.proofs.SizedLaws.{even}
 use Rattle.pattern_section.proofs.TracksBack.{Room, tracks, tracks-back}
@@ -28,16 +27,16 @@ held l =
       frames = l .frames;
       textures = record { place = texturePlace l; count = textureCount l };
       palettes = record { place = palettePlace l; count = paletteCount l };
-      names = names (spec.tracksOf l);
-      tracks = tracks (keyPlace l) (spec.tracksOf l) (l .keys);
+      names = names (tracksOf l);
+      tracks = tracks (keyPlace l) (tracksOf l) (l .keys);
     }
 
 -- lists that can be read back once they are written
 pub record Readable (l : Lent) : Type 0 where
   pub sized : Sized l
   pub frames : l .frames < 65536
-  pub inside : inside (textureCount l) (paletteCount l) (view 4 keyOf (keyTotal (spec.tracksOf l)) (l .keys)) ≡ true
-  pub room : Room (keyPlace l) (spec.tracksOf l)
+  pub inside : inside (textureCount l) (paletteCount l) (view 4 keyOf (keyTotal (tracksOf l)) (l .keys)) ≡ true
+  pub room : Room (keyPlace l) (tracksOf l)
 
 module _ (s : List ℕ) (l : Lent) (w : Stands s 0 (entryBytes l)) (r : Readable l) where
   -- the fields, each where the reader looks for it
@@ -91,7 +90,7 @@ module _ (s : List ℕ) (l : Lent) (w : Stands s 0 (entryBytes l)) (r : Readable
       names-had s t p et ep (omega arith) (omega arith) (omega arith)
       ∙ goes-on _ _ _ _ _ _ (block-back 8 (trackBlock l) (even l k) s 12 (f .block) (k .tracks) (lit< tt) _)
       ∙ ap (run (afterBlock s t p et ep (trackBlock l)) s) (start (trackCount l) (textureCount l) (paletteCount l))
-      ∙ goes-on _ _ _ _ _ _ (tracks-back (textureCount l) (paletteCount l) s (keyPlace l) (spec.tracksOf l) (l .keys) (f .keys) (k .key-bytes) (r .room) (r .inside))
+      ∙ goes-on _ _ _ _ _ _ (tracks-back (textureCount l) (paletteCount l) s (keyPlace l) (tracksOf l) (l .keys) (f .keys) (k .key-bytes) (r .room) (r .inside))
       ∙ rw (f .frames) refl
     where
       start : (c t p : ℕ) → max (max (max 12 (28 + 28 * c + 16 * t)) (28 + 28 * c + 16 * t + 16 * p)) (12 + 12 + 4 * c + 4 + 8 * c + 16 * c) ≡ 28 + 28 * c + 16 * t + 16 * p

@@ -30,10 +30,6 @@ same {l} {r} {at} {end} {p} {q} e h w = let n = w .near in record { bytes = w .b
 
 -- ---- one item more
 
-pub text-more : {l m r : List ℕ} {at mid end : ℕ} (t : List ℕ) (i : ℕ) → i < length t
-    → Wrote l m at mid i (take i t) → Wrote m r mid end 1 (getD t i 0 ∷ []) → Wrote l r at end (i + 1) (take (i + 1) t)
-text-more t i h v w = rw add-one (same (sym (take-suc t i 0 h)) (omega arith) (both v w))
-
 hex-append : (x y : List ℕ) → hex (x ++ y) ≡ hex x ++ hex y
 unfolding hex
 hex-append [] y = refl

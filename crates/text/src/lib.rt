@@ -1,4 +1,5 @@
 // Text, written into a lent array from a position on; each function answers the next position.
+use util::view::put_bytes;
 ghost use mathlib.Core.Path.{_≡_};
 ghost use mathlib.Core.List.{[], _∷_};
 ghost use Prim.Native.Nat.{_+_, _<_, _≤_};
@@ -23,11 +24,7 @@ pub fn put_text(out: &mut [u8; ROOM], at: usize, text: &[u8]) -> usize
     requires { ⌜ at + length (now text) ≤ room ⌝ }
     ensures { λ r. ⌜ Wrote (now (out .entry)) (now (out .exit)) at r (length (now (text .entry))) (now (text .entry)) ⌝ }
 {
-    let mut next = at;
-    for i in 0..text.len() {
-        next = put_byte(out, next, text[i]);
-    }
-    next
+    put_bytes(out, at, text)
 }
 
 // The last decimal digit of n.

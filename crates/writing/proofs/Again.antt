@@ -23,7 +23,7 @@ use Rattle.pattern.proofs.PatternLaws.{inside-append}
 use Rattle.pattern.proofs.HeldLaws.{HeldTrack, HeldPattern, track-for-name, pattern-held}
 use Rattle.nitro.specs.Container.{pat, Entry, entryOf}
 use Rattle.nitro.proofs.ContainerLaws.{value-read, name-sixteen}
-use Rattle.calls.specs.Calls.{chosen, ofPattern, patternName, chosenOf, askPattern, ask, on, answer}
+use Rattle.calls.specs.Calls.{chosen, keys, ofPattern, patternName, chosenOf, askPattern, ask, on, answer}
 use Rattle.calls.proofs.CallsLaws.{entry-asked}
 use Rattle.pattern_section.specs.Written.{Drawn, drawnOf, drawn, names, Lent, textureCount, paletteCount, trackCount, tracksOf, keyTotal, keyPlace, sectionLength, written}
 use Rattle.writing.specs.WritePattern.{few, whole, chosenInside, near, writePattern}
@@ -308,6 +308,7 @@ module _ (s : List ℕ) (bytes : Bytes s) (i m : ℕ) (e : Entry pat) (read : ru
           palette-bytes = rw palettes-are at (back .palette-bytes);
           track-keys = λ k h. rw (count-is k h) at (back .track-keys k (rw tracks-count h));
           key-bytes = λ k h. ap (λ (c : ℕ). take (4 * c) (drop (keysAt l k) b)) (sym (count-is k h)) ∙ back .key-bytes k (rw tracks-count h) ∙ bytes-are k h;
+          no-keys = λ k h. back .no-track k keys (rw tracks-count h);
           track-name = name-again;
           choice = choice-again;
         }

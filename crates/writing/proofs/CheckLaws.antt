@@ -50,7 +50,7 @@ few-tracks l a =
     omega arith
 
 -- where the keys stand, and how long the section is, as the code works it out
-abbrev pub placeOf : Lent → ℕ
+abbrev placeOf : Lent → ℕ
 placeOf l = 28 + 28 * trackCount l + length (l .textures) + length (l .palettes)
 
 abbrev pub sizeOf : Lent → ℕ

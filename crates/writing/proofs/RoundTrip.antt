@@ -37,7 +37,7 @@ room (suc n) bs place b e =
     let w = and-eq-true-iff (ltb place 65536) (near (place + 4 * count) (drawn n (drop 20 bs))) .0 e in
     (word-lt 4 (take 20 bs) 16 (bytes-take 20 bs b), ltb-true place 65536 (w .0), room n (drop 20 bs) (place + 4 * count) (bytes-drop 20 bs b) (w .1))
 
-pub readable : (l : Lent) → Lendable l → (room n : ℕ) → Passed l room n → Readable l
+readable : (l : Lent) → Lendable l → (room n : ℕ) → Passed l room n → Readable l
 readable l h r n p = record { sized = p .sized; frames = h .frames; inside = p .inside; room = room (trackCount l) (l .tracks) (keyPlace l) (h .tracks) (p .near) }
 
 module _ (l : Lent) (h : Lendable l) (room-given n : ℕ) (p : Passed l room-given n) (t : List ℕ) where

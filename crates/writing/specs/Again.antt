@@ -1,12 +1,12 @@
 -- What was read, written again: the lists of a PAT0 entry that a section holds whole. Proved in proofs/Again.antt for every list of bytes.
-use Prim.Native.Nat.{ℕ, _+_, _*_, _<_}
+use Prim.Native.Nat.{ℕ, _+_, _*_, _≤_, _<_}
 use mathlib.Core.Bool.{_&&_}
 use mathlib.Core.List.{List, _++_, map, zipWith, flatten}
 use mathlib.Core.Path.{_≡_}
 use lib.Dec.{leb}
 use lib.ListN.{length, take, drop, getD}
 use Rattle.util.specs.View.{littleBytes}
-use Rattle.util.specs.Reader.{accepted, run, answered, given, told}
+use Rattle.util.specs.Reader.{accepted, refused, run, answered, given, told}
 use Rattle.info_block.specs.Name.{Name}
 use Rattle.pattern.specs.Pattern.{Track, noTrack, keyCount}
 use Rattle.nitro.specs.Container.{pat, Entry, entryOf, recordOf}
@@ -40,7 +40,7 @@ module _ (s : List ℕ) (e : Entry pat) where
         keys = flatten (map keyBytes (e .held .tracks));
       }
 
--- every call says of the section b, whose entry reaches as far as n, what it says of entry i of s, which is e; places apart
+-- every call on an entry says of that of the section b, which reaches as far as n, what it says of entry i of s, which is e; places apart
 pub record Agrees (s : List ℕ) (i : ℕ) (e : Entry pat) (b : List ℕ) (n : ℕ) : Type 0 where
   pub checked : answer (check 0) b ≡ accepted n (recordOf pat e)
   pub textures : answer (on pat 0 textureNames) b ≡ accepted n (record { place = 48 + texturePlace (lentAgain s e); length = e .held .textures .count })
@@ -50,6 +50,7 @@ pub record Agrees (s : List ℕ) (i : ℕ) (e : Entry pat) (b : List ℕ) (n : �
   -- each track's keys
   pub track-keys : (k : ℕ) → k < length (e .held .tracks) → answer (on pat 0 (ofPattern k keys)) b ≡ accepted n (record { place = keysAt (lentAgain s e) k; length = keyCount (getD (e .held .tracks) k noTrack) })
   pub key-bytes : (k : ℕ) → k < length (e .held .tracks) → take (4 * keyCount (getD (e .held .tracks) k noTrack)) (drop (keysAt (lentAgain s e) k) b) ≡ keyBytes s e (getD (e .held .tracks) k noTrack)
+  pub no-keys : (k : ℕ) → length (e .held .tracks) ≤ k → answer (on pat 0 (ofPattern k keys)) b ≡ refused 9
   -- of every track and at every frame, and past the tracks: the name and the choice, refusals too
   pub track-name : (k : ℕ) → told (answer (on pat 0 (patternName k)) b) ≡ told (answer (on pat i (patternName k)) s)
   pub choice : (k frame : ℕ) → told (answer (on pat 0 (ofPattern k (chosen frame))) b) ≡ told (answer (on pat i (ofPattern k (chosen frame))) s)

@@ -23,8 +23,8 @@ sixteen b = replicate 16 b
 
 -- ---- one texture name, one palette name, two tracks: the first of one key, at frame 7, and the second of none
 
-abbrev lent : Lent
-lent =
+abbrev flip : Lent
+flip =
     record {
       name = sixteen 65;
       frames = 12;
@@ -46,16 +46,16 @@ entry =
     ++ (1 ∷ 0 ∷ 0 ∷ 0 ∷ 0 ∷ 0 ∷ 116 ∷ 0 ∷ []) ++ (0 ∷ 0 ∷ 0 ∷ 0 ∷ 0 ∷ 0 ∷ 120 ∷ 0 ∷ [])
     ++ sixteen 68 ++ sixteen 69 ++ sixteen 66 ++ sixteen 67 ++ (7 ∷ 0 ∷ 0 ∷ 0 ∷ [])
 
-pub by-hand : written lent ≡ header ++ entry
+pub by-hand : written flip ≡ header ++ entry
 unfolding written entryBytes blockBytes datums flatten littleBytes little view total
 by-hand = refl
 
 -- a slice of 170 bytes keeps its last two
-pub into-170 : sliceAfter lent (replicate 170 9) (writePattern lent 170) ≡ header ++ entry ++ (9 ∷ 9 ∷ [])
+pub into-170 : sliceAfter flip (replicate 170 9) (writePattern flip 170) ≡ header ++ entry ++ (9 ∷ 9 ∷ [])
 unfolding writePattern near inside written entryBytes blockBytes datums flatten littleBytes little view total
 into-170 = refl
 
-pub in-one-byte-less : (writePattern lent 168 ≡ answered 168) × (writePattern lent 167 ≡ denied 11)
+pub in-one-byte-less : (writePattern flip 168 ≡ answered 168) × (writePattern flip 167 ≡ denied 11)
 unfolding writePattern near inside little view total
 in-one-byte-less = (refl, refl)
 
