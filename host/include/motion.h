@@ -13,7 +13,7 @@
  *    6  an animation of 0 frames
  *    7  a curve's start is not below its end
  *    8  a key's texture or palette is not below its count
- *    9  an index past its list; in writing, bytes left over in a list, or counts that do not add up
+ *    9  an index past its list; a clip that passes frame 65,535; in writing, bytes left over in a list, or counts that do not add up
  *   10  nothing to sample: an empty list, or a track without keys
  *   11  the lent slice is too small
  *   12  more than 999 objects
@@ -41,6 +41,16 @@ uint32_t motion_check(const uint8_t *section, size_t length, size_t entry);
  * column by column, eight little-endian bytes each. The other bytes keep their contents. Fewer than 128 bytes are refused with 11, after
  * everything else. */
 uint32_t motion_matrix(const uint8_t *section, size_t length, size_t entry, size_t object, uint16_t frame, uint8_t *out, size_t out_length);
+
+/* The matrices of all objects of a JNT0 entry at frame `frame`, in order, into the `count` doubles at `out`, from the first on: sixteen doubles each,
+ * column by column, the same bits as of motion_matrix. objects[0] is how many objects there are; the doubles behind their matrices keep their
+ * contents. Fewer than sixteen doubles an object are refused with 11, after everything else. */
+uint32_t motion_pose(const uint8_t *section, size_t length, size_t entry, uint16_t frame, double *out, size_t count, uint64_t objects[1]);
+
+/* The poses at frame `first` and the frames after it, `frames` of them, one behind the other: the matrix of object o at frame first + f stands at
+ * out[16 * (objects[0] * f + o)]. For no frames nothing is written but objects[0]. Refused are, after what is wrong with the entry: a first + frames
+ * that passes 65,536, with 9, whatever `frames` is; then a `count` below 16 * objects * frames, with 11. */
+uint32_t motion_clip(const uint8_t *section, size_t length, size_t entry, uint16_t first, size_t frames, double *out, size_t count, uint64_t objects[1]);
 
 /* The record of an entry: the first and the last eight bytes of its name as little-endian words, its reach, its frames, and how many
  * objects or tracks it has. */

@@ -36,7 +36,7 @@ impl Refusal {
             6 => "the animation has no frames",
             7 => "a curve's start is not before its end",
             8 => "a key's texture or palette is not in its list",
-            9 => "the index is past its list, or the lists to be written do not add up",
+            9 => "the index is past its list, a clip passes frame 65,535, or the lists to be written do not add up",
             10 => "there is nothing to sample: an empty list, or a track without keys",
             11 => "the slice is too small",
             12 => "the animation has more than 999 objects",
@@ -180,6 +180,25 @@ mod calls {
     extern "C" {
         pub fn motion_check(s: *const u8, len: usize, entry: usize) -> u32;
         pub fn motion_matrix(s: *const u8, len: usize, entry: usize, object: usize, frame: u16, out: *mut u8, out_len: usize) -> u32;
+        pub fn motion_pose(
+            s: *const u8,
+            len: usize,
+            entry: usize,
+            frame: u16,
+            out: *mut f64,
+            out_len: usize,
+            objects: *mut [u64; 1],
+        ) -> u32;
+        pub fn motion_clip(
+            s: *const u8,
+            len: usize,
+            entry: usize,
+            first: u16,
+            frames: usize,
+            out: *mut f64,
+            out_len: usize,
+            objects: *mut [u64; 1],
+        ) -> u32;
         pub fn motion_record(s: *const u8, len: usize, entry: usize, out: *mut [u64; 5]) -> u32;
         pub fn motion_find(s: *const u8, len: usize, name: *const [u8; 16], out: *mut [u64; 2]) -> u32;
         pub fn motion_translation_curve(
@@ -406,6 +425,51 @@ pub fn matrix(section: &[u8], entry: usize, object: usize, frame: u16) -> Result
 pub fn matrix_bytes(section: &[u8], entry: usize, object: usize, frame: u16, out: &mut [u8]) -> Result<()> {
     let n = unsafe { calls::motion_matrix(section.as_ptr(), section.len(), entry, object, frame, out.as_mut_ptr(), out.len()) };
     answer(n, ())
+}
+
+/// The matrices of all objects at a frame, in order, from the start of `out`: sixteen floats each, column by column, the same bits as of [`matrix`].
+/// Answers how many objects there are. The rest of `out` keeps its contents, and so does all of it where the call refuses: with 11, after everything
+/// else, an `out` of fewer than sixteen floats an object.
+///
+/// ```
+/// let walk = motion::example::WALK;
+/// let mut out = vec![0.0; 16 * motion::check(walk, 0).unwrap().count];
+/// let objects = motion::pose(walk, 0, 5, &mut out).unwrap();
+/// for object in 0..objects {
+///     // four columns, of which the last is where the object stands
+///     let m = &out[16 * object..][..16];
+///     assert_eq!(m[12..], [1.0, -1.0, 0.5, 1.0]);
+/// }
+/// assert_eq!(motion::pose(walk, 0, 5, &mut out[1..]), Err(motion::Refusal(11)));
+/// ```
+pub fn pose(section: &[u8], entry: usize, frame: u16, out: &mut [f64]) -> Result<usize> {
+    let mut objects = [0];
+    let n = unsafe { calls::motion_pose(section.as_ptr(), section.len(), entry, frame, out.as_mut_ptr(), out.len(), &mut objects) };
+    answer(n, objects[0] as usize)
+}
+
+/// The poses at `first` and the frames after it, `frames` of them, one behind the other: the matrix of object o at frame `first + f` stands at
+/// 16 * (objects * f + o). Answers how many objects there are, for no frames too. What is not written keeps its contents, and so does all of `out`
+/// where the call refuses: with 9, after what is wrong with the entry, where `first + frames` passes 65,536; and then with 11 an `out` that is too
+/// short. Frames past the animation's end are sampled as by [`matrix`].
+///
+/// ```
+/// let grow = motion::example::GROW;
+/// let record = motion::check(grow, 0).unwrap();
+/// let frames = record.frames as usize;
+/// let mut out = vec![0.0; 16 * record.count * frames];
+/// let objects = motion::clip(grow, 0, 0, frames, &mut out).unwrap();
+/// // the scale of an object on y, at each frame
+/// let object = 0;
+/// let grown: Vec<f64> = (0..frames).map(|f| out[16 * (objects * f + object)..][5]).collect();
+/// assert_eq!(grown, [1.0, 2.0]);
+/// assert_eq!(motion::clip(grow, 0, 65535, 2, &mut out), Err(motion::Refusal(9)));
+/// assert_eq!(motion::clip(grow, 0, 0, frames + 1, &mut out), Err(motion::Refusal(11)));
+/// ```
+pub fn clip(section: &[u8], entry: usize, first: u16, frames: usize, out: &mut [f64]) -> Result<usize> {
+    let mut objects = [0];
+    let n = unsafe { calls::motion_clip(section.as_ptr(), section.len(), entry, first, frames, out.as_mut_ptr(), out.len(), &mut objects) };
+    answer(n, objects[0] as usize)
 }
 
 /// An object's translation curve on axis 0, 1 or 2.

@@ -14,6 +14,7 @@ motion list FILE
 motion check FILE ENTRY
 motion find FILE NAME
 motion matrix FILE ENTRY OBJECT FRAME
+motion pose FILE ENTRY FRAME
 motion uv FILE ENTRY TRACK FRAME
 motion choice FILE ENTRY TRACK FRAME
 motion curve FILE ENTRY OBJECT translation AXIS
@@ -32,6 +33,7 @@ section. NAME is text, or 0x and 32 hex digits; it ends before its first zero by
 a track. Of entries or tracks with equal names the first is found. FRAME is 0 to 65535.
 ENTRY, OBJECT, TRACK, AXIS, CHANNEL and INDEX count from 0; INDEX counts the values that a scale's curve stores, of
 which each has two numbers and the first is sampled.
+pose prints a line for each object: its number and its matrix, x to w of column 0, then of column 1, 2 and 3.
 --bits, in any place, prints each float as sixteen hex digits.
 
 pattern prints a PAT0 entry as a TEXT that can be edited, and write makes a PAT0 section of a TEXT; there FILE is what
@@ -200,6 +202,29 @@ fn matrix(args: &Args) -> Outcome {
     Ok(args.matrix(motion::matrix(&args.section()?, args.index(2, "ENTRY")?, args.index(3, "OBJECT")?, args.frame(4)?)?))
 }
 
+/// A table: a line of headings, and one for each object. Every line has as many words, which can be cut apart at the spaces.
+fn pose(args: &Args) -> Outcome {
+    args.no_more(4)?;
+    // no entry has more objects than this
+    let mut out = vec![0.0; 16 * 999];
+    let objects = motion::pose(&args.section()?, args.index(2, "ENTRY")?, args.frame(3)?, &mut out)?;
+    let headings = (0..4).flat_map(|column| ["x", "y", "z", "w"].map(|row| format!("{row}{column}")));
+    let mut lines = vec![["object".into()].into_iter().chain(headings).collect::<Vec<_>>()];
+    for (object, matrix) in out.chunks_exact(16).take(objects).enumerate() {
+        lines.push([object.to_string()].into_iter().chain(matrix.iter().map(|x| args.floats(&[*x]))).collect());
+    }
+    let widths: Vec<_> = (0..17).map(|k| lines.iter().map(|line| line[k].len()).max().unwrap()).collect();
+    let shown = |line: &Vec<String>| {
+        let cell = |(k, word): (usize, &String)| {
+            // two spaces between the columns of a matrix
+            let space = if k == 0 { "" } else { [" ", "  "][usize::from(k % 4 == 1)] };
+            format!("{space}{word:>width$}", width = widths[k])
+        };
+        line.iter().enumerate().map(cell).collect::<String>() + "\n"
+    };
+    Ok(lines.iter().map(shown).collect())
+}
+
 fn uv(args: &Args) -> Outcome {
     args.no_more(5)?;
     Ok(args.matrix(motion::uv_matrix(&args.section()?, args.index(2, "ENTRY")?, args.index(3, "TRACK")?, args.frame(4)?)?))
@@ -306,6 +331,7 @@ fn run(args: &Args, options: &[OsString]) -> Result<Vec<u8>, Stop> {
         "check" => check(args),
         "find" => find(args),
         "matrix" => matrix(args),
+        "pose" => pose(args),
         "uv" => uv(args),
         "choice" => choice(args),
         "curve" => curve(args),

@@ -55,6 +55,8 @@ fn crowds() {
         assert_eq!((record.lines().last(), status), (Some(format!("count={objects}").as_str()), 0));
         assert_eq!(motion(&format!("matrix - 0 {last} 5"), &section), motion("matrix - 0 0 5", WALK));
         assert_eq!(motion(&format!("matrix - 0 {objects} 5"), &section), ("".into(), 1));
+        let (table, status) = motion("pose - 0 5", &section);
+        assert_eq!((table.lines().count(), status), (1 + objects as usize, 0));
         let (listing, _) = motion("list -", &section);
         assert!(listing.contains(&format!("\nreach={}\nframes=12\nobjects={objects:03}\n", section.len())), "{listing}");
         assert_eq!(motion("check - 0", &section[..section.len() - 1]), ("".into(), 1));
@@ -65,11 +67,92 @@ fn crowds() {
     assert_eq!(motion::rotation_curve(&many, 0, 0), Err(motion::Refusal(12)));
     assert_eq!(motion::scale_value(&many, 0, 0, 0, 0), Err(motion::Refusal(12)));
     assert_eq!(motion::resample_scale(&many, 0, 0, &mut [], 0), Err(motion::Refusal(12)));
+    assert_eq!(motion::pose(&many, 0, 5, &mut []), Err(motion::Refusal(12)));
+    assert_eq!(motion::clip(&many, 0, 65535, 2, &mut []), Err(motion::Refusal(12)));
     assert_eq!(motion::check(&many[..48 + 20 + 2 * 1000 - 1], 0), Err(motion::Refusal(2)));
     assert_eq!(motion("check - 0", &many), ("".into(), 1));
     let (listing, status) = motion("list -", &many);
     assert!(listing.ends_with("\nanswer=12\naccepted=0\nrefused=1\nsamples=0\n"), "{listing}");
     assert_eq!(status, 0);
+}
+
+/// Two objects: the walk's one, and one that nothing animates.
+fn two_objects() -> Vec<u8> {
+    [&WALK[..54], &[2, 0], &[0; 12], &[24, 0, 40, 0], &WALK[70..], &[1, 0, 0, 0]].concat()
+}
+
+#[test]
+fn poses() {
+    let two = two_objects();
+    let table = "\
+object   x0  y0  z0  w0   x1  y1  z1  w1   x2  y2  z2  w2   x3   y3  z3  w3
+     0  1.0 0.0 0.0 0.0  0.0 1.0 0.0 0.0  0.0 0.0 1.0 0.0  1.0 -1.0 0.5 1.0
+     1  1.0 0.0 0.0 0.0  0.0 1.0 0.0 0.0  0.0 0.0 1.0 0.0  0.0  0.0 0.0 1.0
+";
+    assert_eq!(motion("pose - 0 5", &two), (table.into(), 0));
+    // each line has the floats of that object's matrix, in the same form
+    for (section, frame) in [(&two[..], 0), (WALK, 65535), (motion::example::GROW, 1), (motion::example::SWAY, 4)] {
+        for bits in ["", " --bits"] {
+            let (table, status) = motion(&format!("pose - 0 {frame}{bits}"), section);
+            assert_eq!(status, 0);
+            let count = motion::check(section, 0).unwrap().count;
+            assert_eq!(table.lines().count(), 1 + count);
+            for (object, line) in table.lines().skip(1).enumerate() {
+                let (matrix, _) = motion(&format!("matrix - 0 {object} {frame}{bits}"), section);
+                let floats = matrix.lines().flat_map(|column| column.split(' ').skip(2));
+                let words: Vec<String> = [object.to_string()].into_iter().chain(floats.map(String::from)).collect();
+                assert_eq!(line.split_whitespace().collect::<Vec<_>>(), words, "{line}");
+            }
+        }
+    }
+    // no objects
+    let none = [&WALK[..54], &[0; 16]].concat();
+    let (table, status) = motion("pose - 0 5", &none);
+    assert_eq!((table.as_str(), status), ("object  x0 y0 z0 w0  x1 y1 z1 w1  x2 y2 z2 w2  x3 y3 z3 w3\n", 0));
+    // another stamp, a byte less than the reach, and the entry after the last
+    let refusal = |words: &str, section: &[u8]| {
+        let path = holding("not-posed", section);
+        let words = words.replace('-', path.to_str().unwrap());
+        complaint(&words.split(' ').collect::<Vec<_>>(), Stdio::null(), Stdio::null())
+    };
+    let told = |number: u32| (format!("{}\n", motion::Refusal(number)), 1);
+    assert_eq!(refusal("pose - 0 5", motion::example::DRIFT), told(1));
+    assert_eq!(refusal("pose - 0 5", &two[..two.len() - 1]), told(2));
+    assert_eq!(refusal("pose - 1 5", &two), told(9));
+    assert_eq!(motion("pose - 1 5", &two), ("".into(), 1));
+}
+
+#[test]
+fn poses_and_clips() {
+    let two = two_objects();
+    // what stands behind what is written is kept, and all of it where the call refuses
+    let kept = [7.5; 70];
+    let matrix = |o, frame| motion::matrix(&two, 0, o, frame).unwrap().as_flattened().to_vec();
+    let mut out = kept;
+    assert_eq!(motion::pose(&two, 0, 5, &mut out), Ok(2));
+    assert_eq!(out[..32], [matrix(0, 5), matrix(1, 5)].concat());
+    assert_eq!(out[32..], kept[32..]);
+    let mut out = kept;
+    assert_eq!(motion::clip(&two, 0, 65534, 2, &mut out), Ok(2));
+    assert_eq!(out[..64], [matrix(0, 65534), matrix(1, 65534), matrix(0, 65535), matrix(1, 65535)].concat());
+    assert_eq!(out[64..], kept[64..]);
+    let mut out = kept;
+    assert_eq!(motion::pose(&two, 0, 5, &mut out[..31]), Err(motion::Refusal(11)));
+    assert_eq!(motion::clip(&two, 0, 5, 2, &mut out[..63]), Err(motion::Refusal(11)));
+    assert_eq!(motion::clip(&two, 0, 5, 0, &mut out), Ok(2));
+    assert_eq!(motion::clip(&two, 0, 65535, 2, &mut out), Err(motion::Refusal(9)));
+    // no number wraps: not the frames, nor sixteen times them
+    for frames in [usize::MAX, usize::MAX - 65534, usize::MAX / 2 + 1, usize::MAX / 16 + 1, usize::MAX / 32 + 1, 65537] {
+        for first in [0, 1, 65535] {
+            assert_eq!(motion::clip(&two, 0, first, frames, &mut out), Err(motion::Refusal(9)), "{frames} frames from {first}");
+        }
+    }
+    // what is wrong with the entry comes first, and 9 before 11
+    assert_eq!(motion::clip(&two[..87], 0, 65535, usize::MAX, &mut []), Err(motion::Refusal(2)));
+    assert_eq!(motion::clip(&two, 0, 65535, usize::MAX, &mut []), Err(motion::Refusal(9)));
+    assert_eq!(motion::clip(&two, 0, 0, 65536, &mut []), Err(motion::Refusal(11)));
+    assert_eq!(motion::pose(motion::example::FLIP, 0, 0, &mut out), Err(motion::Refusal(1)));
+    assert_eq!(out, kept);
 }
 
 #[test]
@@ -394,6 +477,10 @@ fn misused() {
         "check - one",
         "check - 0 1",
         "matrix - 0 0 70000",
+        "pose - 0",
+        "pose - 0 65536",
+        "pose - one 5",
+        "pose - 0 0 5",
         "curve - 0 0 speed",
         "scale - 0 0 0",
         "scale - 0 0 0 one",
@@ -444,6 +531,8 @@ fn holding(name: impl AsRef<Path>, section: &[u8]) -> PathBuf {
 fn usage_is_told() {
     let (text, status) = complaint(&["check", "-"], Stdio::null(), Stdio::null());
     assert_eq!((text.as_str(), status), ("motion: ENTRY is missing\nusage: motion check FILE ENTRY\n", 2));
+    let (text, status) = complaint(&["pose", "/dev/null", "0"], Stdio::null(), Stdio::null());
+    assert_eq!((text.as_str(), status), ("motion: FRAME is missing\nusage: motion pose FILE ENTRY FRAME\n", 2));
     let (text, status) = complaint(&["write", "-"], Stdio::null(), Stdio::null());
     assert_eq!((text.as_str(), status), ("motion: FILE is missing\nusage: motion write TEXT FILE\n", 2));
     let (text, status) = complaint(&["write"], Stdio::null(), Stdio::null());

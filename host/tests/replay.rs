@@ -9,6 +9,17 @@ const LEFT: u64 = 0x5555_5555_5555_5555;
 extern "C" {
     fn motion_check(s: *const u8, len: usize, entry: usize) -> u32;
     fn motion_matrix(s: *const u8, len: usize, entry: usize, object: usize, frame: u16, out: *mut u8, out_len: usize) -> u32;
+    fn motion_pose(s: *const u8, len: usize, entry: usize, frame: u16, out: *mut u64, count: usize, objects: *mut u64) -> u32;
+    fn motion_clip(
+        s: *const u8,
+        len: usize,
+        entry: usize,
+        first: u16,
+        frames: usize,
+        out: *mut u64,
+        count: usize,
+        objects: *mut u64,
+    ) -> u32;
     fn motion_record(s: *const u8, len: usize, entry: usize, out: *mut u64) -> u32;
     fn motion_find(s: *const u8, len: usize, name: *const u8, out: *mut u64) -> u32;
     fn motion_translation_curve(s: *const u8, len: usize, entry: usize, i: usize, axis: usize, out: *mut u64, value: *mut u64) -> u32;
@@ -146,6 +157,8 @@ fn call(c: &[u8], s: &[u8], words: &mut [u64], floats: &mut [u64], bytes: &mut [
                     w,
                 )
             }
+            20 => motion_pose(p, len, entry, frame, f, room.min(100), w),
+            21 => motion_clip(p, len, entry, frame, index, f, room.min(100), w),
             code => panic!("no call has the code {code}"),
         }
     }
@@ -165,6 +178,7 @@ fn lent(code: u8) -> (usize, usize, usize) {
         17 => (0, 2, 0),
         18 => (3, 2, 0),
         19 => (1, 0, 240),
+        20 | 21 => (1, 100, 0),
         _ => (2, 0, 0),
     }
 }

@@ -11,7 +11,7 @@ use lib.ListN.{length, getD}
 use lib.Ieee.{Float}
 use Rattle.util.specs.Bits.{bits, bit}
 use Rattle.util.specs.Fixed.{Fix, fix1-19-12, fix1-3-12, width}
-use Rattle.util.specs.Reader.{done, part, accepted, run}
+use Rattle.util.specs.Reader.{done, accepted, run}
 use Rattle.util.specs.declared.cur.Tally.{Tally}
 use Rattle.util.specs.ReaderCode.{tallyOf}
 use Rattle.util.specs.Sums.{total}
@@ -24,7 +24,7 @@ use Rattle.matrix.proofs.MagnitudeLaws.{Three, Nine, three, translation-below, 
 use Rattle.rotation.proofs.MagnitudeLaws.{pivot-small, basis-small}
 use Rattle.curve.specs.Curve.{none, Pair}
 use Rattle.curve.proofs.MagnitudeLaws.{SizedCurve, SmallPair, firsts-sized, count-few, scalar-sized, rotation-sized, number-small, pair-small, sized}
-use Rattle.animation.specs.Animation.{PerAxis, Axes, Object, Animation, noAxes, axesSamples, objectSamples, mostObjects, Triple, translation, scale, Value, firstNumbers, valueFrom, leftOutBit, startOf, endOf, valuesOf, widthOf, formatOf, curveWord, listFields, scalarList, scalar, axes, animatedAxes, pivotOf, basisOf, Referred, pivotRecord, basisRecord, referred, reference, rotationList, rotation, animatedRotation, animated, object, animation, axesAt, matrixAt}
+use Rattle.animation.specs.Animation.{PerAxis, Axes, Object, Animation, noAxes, axesSamples, objectSamples, mostObjects, Triple, translation, scale, Value, firstNumbers, valueFrom, leftOutBit, startOf, endOf, valuesOf, widthOf, formatOf, curveWord, listFields, scalarList, scalar, axes, animatedAxes, pivotOf, basisOf, pivotRecord, basisRecord, referred, reference, rotationList, rotation, animatedRotation, animated, object, animation, axesAt, matrixAt}
 use Rattle.animation.proofs.ScalarLaws.{end-lt, word-told}
 
 pub record SizedAxes {A : Type 0} (P : A → Type 0) (a : PerAxis A) : Type 0 where
@@ -128,16 +128,18 @@ unfolding animatedAxes
 animated-axes-all t flags p = all-cond _ (eqb (bits flags (leftOutBit t) (leftOutBit t + 2)) 0) (axes t flags p) (done (noAxes, p)) (axes-all t _ _) (no-axes (SmallValue t))
 
 module _ (pivot basis : ℕ) where
-  reference-all : (x : ℕ) → All (Nine Small) (reference pivot basis x)
-  unfolding reference referred pivotOf basisOf
-  reference-all x = go (bit x 15)
+  -- whatever bytes a reference leads to
+  pub referred-small : (x : ℕ) (bs : List ℕ) → Nine Small (referred pivot basis x .gives bs)
+  unfolding referred pivotOf basisOf
+  referred-small x bs = go (bit x 15)
     where
-      gives : Bool → Referred
-      gives b = cond b (pivotRecord (pivot + 6 * bits x 0 15)) (basisRecord (basis + 10 * bits x 0 15))
+      go : (b : Bool) → Nine Small (cond b (pivotRecord (pivot + 6 * bits x 0 15)) (basisRecord (basis + 10 * bits x 0 15)) .gives bs)
+      go true = pivot-small _ _ _ _ (small-fixed fix1-3-12 (lit≤ tt) _) (small-fixed fix1-3-12 (lit≤ tt) _)
+      go false = basis-small _ _ _ _ _
 
-      go : (b : Bool) → All (Nine Small) (part (gives b .place) (gives b .size) (λ bs. done (gives b .gives bs)))
-      go true = λ bs _ _. pivot-small _ _ _ _ (small-fixed fix1-3-12 (lit≤ tt) _) (small-fixed fix1-3-12 (lit≤ tt) _)
-      go false = λ bs _ _. basis-small _ _ _ _ _
+  reference-all : (x : ℕ) → All (Nine Small) (reference pivot basis x)
+  unfolding reference
+  reference-all x bs _ _ = referred-small x bs
 
   rotation-list-all : (w off next : ℕ) → startOf w < endOf w → All (Of (SizedCurve (Nine Small))) (rotationList pivot basis w off next)
   unfolding rotationList

@@ -1,11 +1,10 @@
 -- The runs of the readers of rotations, by what the section holds. Assumes nothing.
-use Prim.Native.Nat.{ℕ, zero, suc, _+_, _*_, max, _≤_, _<_}
+use Prim.Native.Nat.{ℕ, _+_, _*_, max, _≤_, _<_}
 use mathlib.Core.Bool.{Bool, true, false, cond}
 use mathlib.Core.List.{List, [], _∷_, map}
 use mathlib.Core.Path.{_≡_, refl, sym, ap, subst, _∙_}
 use native.Mathlib.Nat.{mod-lt, le-refl}
 use native.Mathlib.Omega.{arith}
-use lib.Dec.{eqb}
 use lib.ListN.{length, drop, getD, length-map}
 use lib.Pow.{pow-pos}
 use Rattle.util.specs.declared.cur.Reach.{Reach}
@@ -44,12 +43,6 @@ reference-count s l = view-length 2 little (l .length) (drop (l .place) s)
 pub matrix-count : (t : Tables) (s : List ℕ) (l : SampleList) → length (map (matrixFor t s) (references s l)) ≡ l .length
 matrix-count t s l = length-map (references s l) (matrixFor t s) ∙ reference-count s l
 
--- what a bit looks up in an array of two
-looked : (p b j : ℕ) → j < 2 → getD (b ∷ p ∷ []) j 0 ≡ cond (eqb j 1) p b
-looked p b zero l = refl
-looked p b (suc zero) l = refl
-looked p b (suc (suc j)) l = absurd (omega arith)
-
 module _ (t : Tables) (x : ℕ) where
   -- no record's end wraps
   pub end-small : t .pivot < 4294967296 → t .basis < 4294967296 → referenceEnd t x < 8589934592
@@ -68,40 +61,16 @@ module _ (t : Tables) (x : ℕ) where
       go true p = refl
       go false p = refl
 
-  -- both looked up by bit 15
-  module _ (j : ℕ) (e : j ≡ bits x 15 16) (y : Bool) (q : y ≡ bit x 15) (i : ℕ) (g : i ≡ bits x 0 15) where
-    abbrev sized : ℕ
-    sized = getD (10 ∷ 6 ∷ []) j 0
+  -- what bit 15 tells apart
+  pub refers : (y : Bool) → y ≡ bit x 15 → (i : ℕ) → i ≡ bits x 0 15 → referred (t .pivot) (t .basis) x ≡ cond y (pivotRecord (t .pivot + 6 * i)) (basisRecord (t .basis + 10 * i))
+  unfolding referred
+  refers y q i g = rw (q, g) refl
 
-    abbrev placed : ℕ
-    placed = getD (t .basis ∷ t .pivot ∷ []) j 0 + sized * i
-
-    by-bit : (p b : ℕ) → getD (b ∷ p ∷ []) j 0 ≡ cond (bit x 15) p b
-    by-bit p b = looked p b j (subst (λ (k : ℕ). k < 2) (sym e) (mod-lt _ (pow-pos 1))) ∙ ap (λ (k : ℕ). cond (eqb k 1) p b) e
-
-    pub refers : (cond y (pivotRecord placed) (basisRecord placed) ≡ referred (t .pivot) (t .basis) x) × (sized ≡ referred (t .pivot) (t .basis) x .size)
-    unfolding referred
-    refers = go (bit x 15) (by-bit (t .pivot) (t .basis)) (by-bit 6 10) y q
-      where
-        go : (z : Bool) → getD (t .basis ∷ t .pivot ∷ []) j 0 ≡ cond z (t .pivot) (t .basis) → sized ≡ cond z 6 10 → (y : Bool) → y ≡ z → (cond y (pivotRecord placed) (basisRecord placed) ≡ cond z (pivotRecord (t .pivot + 6 * bits x 0 15)) (basisRecord (t .basis + 10 * bits x 0 15))) × (sized ≡ cond z (pivotRecord (t .pivot + 6 * bits x 0 15)) (basisRecord (t .basis + 10 * bits x 0 15)) .size)
-        go true d n y h = rw h (rw d (rw n (rw g (refl, refl))))
-        go false d n y h = rw h (rw d (rw n (rw g (refl, refl))))
-
-    pub looked-end : placed + sized ≡ referenceEnd t x
-    looked-end = end-of (record { pivot = y; place = placed; size = sized }) (refers .0) (refers .1)
-
-reference-run : (t : Tables) (x : ℕ) (s : List ℕ) (m : ℕ) → run (reference (t .pivot) (t .basis) x) s m ≡ ends (referenceEnd t x) (length s) (accepted (max m (referenceEnd t x)) (matrixFor t s x))
+pub reference-run : (t : Tables) (x : ℕ) (s : List ℕ) (m : ℕ) → run (reference (t .pivot) (t .basis) x) s m ≡ ends (referenceEnd t x) (length s) (accepted (max m (referenceEnd t x)) (matrixFor t s x))
 unfolding reference run
 reference-run t x s m = refl
 
 module _ (t : Tables) (x : ℕ) (s : List ℕ) (m : ℕ) where
-  pub record-short : (e : ℕ) → e ≡ referenceEnd t x → length s < e → Refused 2 ≡ reachOf (run (reference (t .pivot) (t .basis) x) s m)
-  record-short e q h = ap reachOf (sym (reference-run t x s m ∙ short _ _ _ (subst (λ (n : ℕ). length s < n) q h)))
-
-  pub record-whole : (e far : ℕ) → e ≡ referenceEnd t x → far ≡ max m e → e ≤ length s → Whole far ≡ reachOf (run (reference (t .pivot) (t .basis) x) s m)
-  record-whole e far q g h =
-      ap Whole (g ∙ ap (max m) q) ∙ ap reachOf (sym (reference-run t x s m ∙ had _ _ _ _ (subst (λ (n : ℕ). n ≤ length s) q h) refl))
-
   -- an accepted reference is a record that stands in the section
   pub record-read : (k : ℕ) (v : Mat3) → run (reference (t .pivot) (t .basis) x) s m ≡ accepted k v → (v ≡ matrixFor t s x) × (referenceEnd t x ≤ length s)
   record-read k v e =

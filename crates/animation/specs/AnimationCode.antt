@@ -1,18 +1,22 @@
 -- What the code of animation.rt answers: where the curves of an entry stand. Assumes nothing.
-use Prim.Native.Nat.{ℕ, _+_, _*_, _≤_, _<_}
+use Prim.Native.Nat.{ℕ, _+_, _*_, _%_, max, _≤_, _<_}
 use mathlib.Core.Bool.{cond}
-use mathlib.Core.List.{List, map}
+use mathlib.Core.List.{List, [], _∷_, map}
 use mathlib.Core.Path.{_≡_}
+use lib.Dec.{leb}
 use lib.ListN.{length, take, drop, getD}
 use Rattle.util.specs.View.{little, wordAt, view}
 use Rattle.util.specs.Reader.{Reader, Outcome, accepted, refused, run, each}
 use Rattle.util.specs.ReaderCode.{reached, Reads}
 use Rattle.util.specs.Sums.{total}
-use Rattle.util.specs.declared.cur.Reach.the-variants.{Refused}
+use Rattle.util.specs.declared.cur.Reach.{Reach}
+use Rattle.util.specs.declared.cur.Reach.the-variants.{Whole, Refused}
+use Rattle.util.specs.Bits.{bit}
 use Rattle.animation.specs.declared.Triple.{Triple as CodeTriple}
 use Rattle.animation.specs.declared.Triple.the-variants.{Translation, Scale}
 use Rattle.animation.specs.declared.Tables.{Tables}
 use Rattle.animation.specs.declared.Referred.{Referred as CodeReferred}
+use Rattle.animation.specs.declared.Greatest.{Greatest}
 use Rattle.animation.specs.declared.Animation.{Animation as Known}
 use Rattle.animation.specs.declared.AnimationRead.{AnimationRead}
 use Rattle.animation.specs.declared.AxisCurves.{AxisCurves}
@@ -101,10 +105,32 @@ noCurves = record { x = ScalarCurve.None; y = ScalarCurve.None; z = ScalarCurve.
 abbrev pub referredMeans : CodeReferred → Referred
 referredMeans r = cond (r .pivot) (pivotRecord (r .place)) (basisRecord (r .place))
 
--- where the record ends that a reference leads to, and the matrix that it holds
+-- where the record ends that a reference leads to
 abbrev pub referenceEnd : Tables → ℕ → ℕ
 referenceEnd t x = referred (t .pivot) (t .basis) x .place + referred (t .pivot) (t .basis) x .size
 
+-- how far a part reaches that ends at e, in n bytes, after parts that reach as far as m
+abbrev pub reachTo : ℕ → ℕ → ℕ → Reach
+reachTo e n m = cond (leb e n) (Whole (max m e)) (Refused 2)
+
+-- a u16 with bit 15 turned
+abbrev pub turnedOver : ℕ → ℕ
+turnedOver x = (x + 32768) % 65536
+
+-- the greatest f of some numbers; of none, 0
+unfoldable pub greatestOf : (ℕ → ℕ) → List ℕ → ℕ
+greatestOf f [] = 0
+greatestOf f (x ∷ xs) = max (f x) (greatestOf f xs)
+
+-- where the record ends that x leads to, if `mark` has bit 15 set
+abbrev pub markedEnd : Tables → ℕ → ℕ → ℕ
+markedEnd t mark x = cond (bit mark 15) (referenceEnd t x) 0
+
+-- where the last of the records ends that some references lead to, by the greatest of them: of the pivot data, and of the basis data
+abbrev pub lastEnd : Tables → Greatest → ℕ
+lastEnd t g = max (markedEnd t (g .plain) (g .plain)) (markedEnd t (g .turned) (turnedOver (g .turned)))
+
+-- the matrix that a record holds, and the one that a reference leads to
 abbrev pub matrixIn : List ℕ → Referred → Mat3
 matrixIn s r = r .gives (take (r .size) (drop (r .place) s))
 

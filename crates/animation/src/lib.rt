@@ -16,7 +16,7 @@ use util::view::word32;
 ghost use mathlib.Core.Bool.{true, false};
 ghost use mathlib.Core.List.{List};
 ghost use mathlib.Core.Path.{_≡_};
-ghost use Prim.Native.Nat.{ℕ, _+_, _*_, _<_, _≤_};
+ghost use Prim.Native.Nat.{ℕ, _+_, _*_, max, _<_, _≤_};
 ghost use lib.Dec.{eqb};
 ghost use lib.ListN.{length, drop};
 ghost use Rattle.util.specs.Bits.{bits};
@@ -27,7 +27,7 @@ ghost use Rattle.util.specs.Sums.{total};
 ghost use Rattle.curve.specs.Curve.{sampleCount};
 ghost use Rattle.curve.specs.CurveCode.{formatMeans};
 ghost use Rattle.animation.specs.Animation.{numbersOf, leftOutBit, constantBit, startOf, endOf, widthOf, formatOf, valueSize, listFields, scalarList, scalar, axis, axes, animatedAxes, reference, rotationList, rotation, animatedRotation, animated, object, axesSamples, objectSamples};
-ghost use Rattle.animation.specs.AnimationCode.{tripleMeans, fieldsMeans, Forward, codeList, ScalarReads, AxesReads, noCurves, referredMeans, referenceEnd, tripleCurves, rotationCurve, RotationReads, ObjectReads, stillCurves, refusedObject, tablesAt, AnimationIs};
+ghost use Rattle.animation.specs.AnimationCode.{tripleMeans, fieldsMeans, Forward, codeList, ScalarReads, AxesReads, noCurves, referredMeans, referenceEnd, reachTo, turnedOver, greatestOf, markedEnd, lastEnd, tripleCurves, rotationCurve, RotationReads, ObjectReads, stillCurves, refusedObject, tablesAt, AnimationIs};
 ghost use Rattle.animation.specs.Animation as spec;
 
 // More objects in an animation are refused.
@@ -303,15 +303,19 @@ pub struct Referred {
 pub fn refer(t: Tables, x: u16) -> Referred
     ensures { λ r. ⌜ (referredMeans r ≡ spec.referred (t .pivot) (t .basis) x) × (r .size ≡ spec.referred (t .pivot) (t .basis) x .size) ⌝ }
 {
-    // looked up and not chosen by an `if`: the loop over references takes half the time so
-    let tables = [t.basis as usize, t.pivot as usize];
-    let sizes = [10usize, 6];
-    let kind = bits16(x, 15, 16) as usize;
-    let size = sizes[kind];
-    Referred {
-        pivot: bit16(x, 15),
-        place: tables[kind] + size * (bits16(x, 0, 15) as usize),
-        size,
+    let number = bits16(x, 0, 15) as usize;
+    if bit16(x, 15) {
+        Referred {
+            pivot: true,
+            place: t.pivot as usize + 6 * number,
+            size: 6,
+        }
+    } else {
+        Referred {
+            pivot: false,
+            place: t.basis as usize + 10 * number,
+            size: 10,
+        }
     }
 }
 
@@ -323,11 +327,10 @@ fn reference_end(t: Tables, x: u16) -> usize
     r.place + r.size
 }
 
-// How far the record reaches that x refers to.
-fn follow(s: &[u8], t: Tables, x: u16, reach: usize) -> Reach
-    ensures { λ r. ⌜ r ≡ reachOf (run (reference (t .pivot) (t .basis) x) (now (s .entry)) reach) ⌝ }
+// How far a part reaches that ends at `end`.
+fn reach_to(s: &[u8], end: usize, reach: usize) -> Reach
+    ensures { λ r. ⌜ r ≡ reachTo end (length (now (s .entry))) reach ⌝ }
 {
-    let end = reference_end(t, x);
     if s.len() < end {
         Reach::Refused(2)
     } else {
@@ -335,23 +338,76 @@ fn follow(s: &[u8], t: Tables, x: u16, reach: usize) -> Reach
     }
 }
 
-// How far the records reach that the n references at `list` lead to.
+// How far the record reaches that x refers to.
+fn follow(s: &[u8], t: Tables, x: u16, reach: usize) -> Reach
+    ensures { λ r. ⌜ r ≡ reachOf (run (reference (t .pivot) (t .basis) x) (now (s .entry)) reach) ⌝ }
+{
+    reach_to(s, reference_end(t, x), reach)
+}
+
+// The greatest of some references, and the greatest of them with bit 15 turned: by the first the last record of the pivot data is known that
+// they lead to, by the second that of the basis data.
+struct Greatest {
+    plain: u16,
+    turned: u16,
+}
+
+// x with bit 15 turned.
+fn turn(x: u16) -> u16
+    ensures { λ r. ⌜ r ≡ turnedOver x ⌝ }
+{
+    x ^ 0x8000
+}
+
+fn greater16(a: u16, b: u16) -> u16
+    ensures { λ r. ⌜ r ≡ max a b ⌝ }
+{
+    if a < b { b } else { a }
+}
+
+// The greatest of the n references at `list`: no record that they lead to ends after the last of these. The loop has no branch and no way out, so
+// that the compiler takes many references in a step.
+fn greatest_of(s: &[u8], list: usize, n: usize) -> Greatest
+    requires { ⌜ list + 2 * n ≤ length (now s) ⌝ }
+    ensures { λ r. ⌜ ((t : Tables) → lastEnd t r ≡ greatestOf (referenceEnd t) (view 2 little n (drop list (now (s .entry))))) ⌝ }
+{
+    let mut plain = 0u16;
+    let mut turned = 0u16;
+    for i in 0..n {
+        let x = word16(s, list + 2 * i);
+        plain = greater16(plain, x);
+        turned = greater16(turned, turn(x));
+    }
+    Greatest { plain, turned }
+}
+
+// Where the record ends that x refers to, if `mark` has bit 15 set.
+fn marked_end(t: Tables, mark: u16, x: u16) -> usize
+    ensures { λ r. ⌜ r ≡ markedEnd t mark x ⌝ }
+{
+    if bit16(mark, 15) {
+        reference_end(t, x)
+    } else {
+        0
+    }
+}
+
+// Where the last of the records ends that the references lead to.
+fn last_end(t: Tables, g: Greatest) -> usize
+    ensures { λ r. ⌜ r ≡ lastEnd t g ⌝ }
+{
+    greater(
+        marked_end(t, g.plain, g.plain),
+        marked_end(t, g.turned, turn(g.turned)),
+    )
+}
+
+// How far the records reach that the n references at `list` lead to: as far as the last of them.
 fn follow_all(s: &[u8], t: Tables, list: usize, n: usize, reach: usize) -> Reach
     requires { ⌜ list + 2 * n ≤ length (now s) ⌝ }
     ensures { λ r. ⌜ r ≡ reachOf (run (each (reference (t .pivot) (t .basis)) (view 2 little n (drop list (now (s .entry))))) (now (s .entry)) reach) ⌝ }
 {
-    let mut far = reach;
-    let mut i = 0usize;
-    while i < n {
-        match follow(s, t, word16(s, list + 2 * i), far) {
-            Reach::Refused(c) => return Reach::Refused(c),
-            Reach::Whole(m) => {
-                far = m;
-            }
-        }
-        i += 1;
-    }
-    Reach::Whole(far)
+    reach_to(s, last_end(t, greatest_of(s, list, n)), reach)
 }
 
 // A constant rotation: a reference, and two bytes skipped.

@@ -17,7 +17,7 @@ use Rattle.animation.proofs.FiniteLaws.{Sized, SizedAxes, SmallValue}
 use Rattle.material_animation.proofs.FiniteLaws.{SizedTrack}
 use Rattle.nitro.specs.Container.{Kind, Entry, entryOf}
 use Rattle.nitro.proofs.FiniteLaws.{SizedValue, entry-all}
-use Rattle.calls.specs.Calls.{ObjectQuery, matrix, curve, scaleValue, rotationCurve, resampled, matrixBytes, MaterialQuery, uvMatrix, channelCurve, Query, ofObject, ofMaterial, materialName, ofPattern, patternName, textureNames, paletteNames, at, askObject, askMaterial, ask, Call, check, find, on, reader, answer}
+use Rattle.calls.specs.Calls.{ObjectQuery, matrix, curve, scaleValue, rotationCurve, resampled, matrixBytes, MaterialQuery, uvMatrix, channelCurve, Query, ofObject, pose, clip, ofMaterial, materialName, ofPattern, patternName, textureNames, paletteNames, at, askObject, askMaterial, ask, Call, check, find, on, reader, answer}
 use Rattle.calls.specs.FramesTold.{ObjectTells, MaterialTells, QueryTells, AnswerTells, EveryListTold}
 
 -- a test that reads nothing, and what is told after it
@@ -57,6 +57,8 @@ material-tells (uvMatrix frame) entry channels h = tt
 query-tells : {k : Kind} (q : Query k) (e : Entry k) → SizedValue k (e .held) → All (QueryTells q) (tell (ask q e))
 unfolding ask
 query-tells (ofObject object q) e h = all-at Sized (ObjectTells q) (e .held .objects) stillObject (h .1) object (askObject q (e .offset)) (object-tells q (e .offset))
+query-tells (pose frame out) e h = all-any (tell (ask (pose frame out) e))
+query-tells (clip first frames out) e h = all-any (tell (ask (clip first frames out) e))
 query-tells (ofMaterial track q) e h = all-at SizedTrack (MaterialTells q) (e .held .tracks) [] (h .1) track (askMaterial q (e .offset)) (material-tells q (e .offset))
 query-tells (materialName track) e h = all-any (tell (ask (materialName track) e))
 query-tells (ofPattern track q) e h = all-any (tell (ask (ofPattern track q) e))

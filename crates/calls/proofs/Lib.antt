@@ -4,5 +4,6 @@ pub mod BothCut
 pub mod Finding
 pub mod Samples
 pub mod ScaleValues
+pub mod Poses
 pub mod FramesTold
 pub mod CallsLaws

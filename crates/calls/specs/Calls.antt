@@ -19,6 +19,7 @@ use Rattle.material_animation.specs.MaterialAnimation.{uvMatrixAt}
 use Rattle.pattern.specs.Pattern.{Key, Track, noTrack, choice}
 use Rattle.nitro.specs.Container.{Kind, jnt, srt, pat, allKinds, stamped, section, Entry, entry, EntryRecord, recordOf, entryOf}
 use Rattle.gltf.specs.Curve.{Resampled, resample}
+use Rattle.pose.specs.Pose.{Posed, poseInto, clipInto}
 
 -- ---- what is asked of an entry
 
@@ -45,6 +46,9 @@ pub data PatternQuery : Type 0 where
 
 pub data Query : Kind → Type 0 where
   ofObject : (object : ℕ) → ObjectQuery → Query jnt
+  -- the matrices of all objects at a frame, and at so many frames from `first` on, into a lent slice
+  pose : (frame : ℕ) (out : List Float) → Query jnt
+  clip : (first frames : ℕ) (out : List Float) → Query jnt
   ofMaterial : (track : ℕ) → MaterialQuery → Query srt
   materialName : (track : ℕ) → Query srt
   ofPattern : (track : ℕ) → PatternQuery → Query pat
@@ -80,6 +84,8 @@ PatternReply keys = Listed
 
 abbrev pub Reply : {k : Kind} → Query k → Type 0
 Reply (ofObject o q) = ObjectReply q
+Reply (pose f out) = Posed
+Reply (clip f n out) = Posed
 Reply (ofMaterial t q) = MaterialReply q
 Reply (materialName t) = Name
 Reply (ofPattern t q) = PatternReply q
@@ -120,6 +126,8 @@ askPattern keys entry t = answered (record { place = entry + t .place; length = 
 
 unfoldable pub ask : {k : Kind} (q : Query k) → Entry k → Verdict (Reply q)
 ask (ofObject object q) e = at (e .held .objects) stillObject object (askObject q (e .offset))
+ask (pose frame out) e = poseInto (e .held .objects) frame out
+ask (clip first frames out) e = clipInto (e .held .objects) first frames out
 ask (ofMaterial track q) e = at (e .held .tracks) [] track (askMaterial q (e .offset))
 ask (materialName track) e = at (e .held .names) [] track answered
 ask (ofPattern track q) e = at (e .held .tracks) noTrack track (askPattern q (e .offset))
@@ -149,7 +157,8 @@ reader (on k i q) = bind (entryOf k i) (λ e. tell (ask q e))
 unfoldable pub answer : (c : Call) → List ℕ → Outcome (Answer c)
 answer c s = run (reader c) s 0
 
--- ---- a lent slice at exit: what was written, and its old contents where the call refuses (of floats, gltf's `sliceOf`)
+-- ---- a lent slice at exit: what was written, and its old contents where the call refuses (of floats, gltf's `sliceOf`
+-- and pose's `posedSlice`)
 
 abbrev pub bytesAfter : List ℕ → Verdict (List ℕ) → List ℕ
 bytesAfter out (answered written) = written

@@ -17,8 +17,9 @@ use Rattle.material_animation.specs.MaterialAnimation.{channelList, channel, ma
 use Rattle.pattern.specs.Pattern.{inside, track, pattern, firstLater, choice, keysOf}
 use Rattle.nitro.specs.Container.{kindOf, stamped, section, entryIn, entry, entryOf}
 use Rattle.gltf.specs.Curve.{domain, isEmpty, union, framesFrom, framesOf, axesDomain, anyEmpty, sampleAxes, resampleVec3, resample}
+use Rattle.pose.specs.Pose.{poseAt, posesFrom, poseInto, clipInto}
 use Rattle.calls.specs.Calls.{Call, Answer, chosenOf, askObject, askMaterial, askPattern, ask, reader, answer}
 
 unfoldable pub evaluate : (c : Call) → List ℕ → Outcome (Answer c)
-unfolding round neg add sub mul div ofInt toBits little littleBytes view same ends run bind each unless within total fixed ratio frontOf sameBytes equal earliest infoBlock product trs placed turned pivotMat basisMat floor ceil index mix mixMat between sampleList sampleAt recorded curveWord listFields scalarList scalar axes animatedAxes pivotOf basisOf referred reference rotationList rotation animatedRotation animated object animation axesAt matrixAt channelList channel materialAnimation shiftAt shiftOf uvMatrixAt inside track pattern firstLater choice keysOf kindOf stamped section entryIn entry domain isEmpty union framesFrom framesOf axesDomain anyEmpty sampleAxes resampleVec3 bytesOf resample chosenOf askObject askMaterial askPattern ask entryOf reader answer
+unfolding round neg add sub mul div ofInt toBits little littleBytes view same ends run bind each unless within total fixed ratio frontOf sameBytes equal earliest infoBlock product trs placed turned pivotMat basisMat floor ceil index mix mixMat between sampleList sampleAt recorded curveWord listFields scalarList scalar axes animatedAxes pivotOf basisOf referred reference rotationList rotation animatedRotation animated object animation axesAt matrixAt channelList channel materialAnimation shiftAt shiftOf uvMatrixAt inside track pattern firstLater choice keysOf kindOf stamped section entryIn entry domain isEmpty union framesFrom framesOf axesDomain anyEmpty sampleAxes resampleVec3 bytesOf resample poseAt posesFrom poseInto clipInto chosenOf askObject askMaterial askPattern ask entryOf reader answer
 evaluate c s = answer c s

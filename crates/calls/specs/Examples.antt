@@ -14,7 +14,7 @@ use Rattle.curve.specs.Curve.{Pair, always, listed}
 use Rattle.animation.specs.Animation.{translation, scale}
 use Rattle.nitro.specs.Container.{jnt, srt, pat, stampOf, EntryRecord}
 use Rattle.gltf.specs.Curve.{noSpan, span}
-use Rattle.calls.specs.Calls.{check, find, on, ofObject, matrix, matrixBytes, curve, scaleValue, rotationCurve, resampled, ofPattern, chosen, ofMaterial, channelCurve, answer}
+use Rattle.calls.specs.Calls.{check, find, on, ofObject, pose, clip, matrix, matrixBytes, curve, scaleValue, rotationCurve, resampled, ofPattern, chosen, ofMaterial, channelCurve, answer}
 use Rattle.calls.specs.Material.{Material, noShift, joined, material}
 use Rattle.calls.specs.Evaluate.{evaluate}
 use Rattle.calls.specs.Pinned.{walk, walkName}
@@ -378,3 +378,36 @@ pub each-in-turn :
     × (material 0 0 (named fog 0) 5 (drift ++ u8 7) (flip ++ u8 7) ≡ denied 14)
 unfolding evaluate material joined
 each-in-turn = (refl, refl, refl, refl, refl, refl)
+
+-- ---- 15. Poses and clips
+
+-- two objects: one that nothing animates, and one that is at 0 and then at 1 on its x axis; 104 bytes
+abbrev pair : List ℕ
+pair =
+    stampOf jnt ++ u32 0 ++ block 1 4 (u32 48) (zeros 16)
+    ++ (0x4A ∷ 0x00 ∷ 0x41 ∷ 0x43 ∷ []) ++ u16 5 ++ u16 2 ++ zeros 12 ++ u16 24 ++ u16 28
+    ++ u16 1 ++ u16 0
+    ++ u16 0x270 ++ u16 0 ++ u32 (2 * 0x1_0000) ++ u32 48 ++ zeros 8
+    ++ u32 0 ++ u32 0x1000
+
+-- the sixteen floats of an object that is moved by x
+abbrev moved : Float → List Float
+moved x = f1 ∷ f0 ∷ f0 ∷ f0 ∷ f0 ∷ f1 ∷ f0 ∷ f0 ∷ f0 ∷ f0 ∷ f1 ∷ f0 ∷ x ∷ f0 ∷ f0 ∷ f1 ∷ []
+
+-- both objects at frame 1, and the last float as it was; a float less is too small
+pub its-pose :
+    (answer (on jnt 0 (pose 1 (replicate 33 (neg f1)))) pair ≡ accepted 104 (record { objects = 2; slice = moved f0 ++ moved f1 ++ neg f1 ∷ [] }))
+    × (answer (on jnt 0 (pose 1 (replicate 31 f0))) pair ≡ refused 11)
+unfolding evaluate
+its-pose = (refl, refl)
+
+-- frame by frame, and in each frame object by object; no frames write nothing; 9 past the last frame comes before 11
+pub its-clip :
+    (answer (on jnt 0 (clip 0 2 (replicate 64 (neg f1)))) pair ≡ accepted 104 (record { objects = 2; slice = moved f0 ++ moved f0 ++ moved f0 ++ moved f1 }))
+    × (answer (on jnt 0 (clip 0 2 (replicate 63 f0))) pair ≡ refused 11)
+    × (answer (on jnt 0 (clip 65535 0 (f1 ∷ []))) pair ≡ accepted 104 (record { objects = 2; slice = f1 ∷ [] }))
+    × (answer (on jnt 0 (clip 65535 2 [])) pair ≡ refused 9)
+    × (answer (on jnt 1 (clip 65535 2 [])) pair ≡ refused 9)
+    × (answer (on jnt 0 (clip 65535 2 [])) (take 103 pair) ≡ refused 2)
+unfolding evaluate
+its-clip = (refl, refl, refl, refl, refl, refl)

@@ -6,7 +6,7 @@ use mathlib.Core.Path.{_≡_}
 use Rattle.util.specs.Reader.{accepted}
 use Rattle.curve.specs.Curve.{RecordTells}
 use Rattle.nitro.specs.Container.{Kind}
-use Rattle.calls.specs.Calls.{ObjectQuery, matrix, curve, scaleValue, rotationCurve, resampled, matrixBytes, MaterialQuery, uvMatrix, channelCurve, Query, ofObject, ofMaterial, materialName, ofPattern, patternName, textureNames, paletteNames, ObjectReply, MaterialReply, Reply, Call, check, find, on, Answer, answer}
+use Rattle.calls.specs.Calls.{ObjectQuery, matrix, curve, scaleValue, rotationCurve, resampled, matrixBytes, MaterialQuery, uvMatrix, channelCurve, Query, ofObject, pose, clip, ofMaterial, materialName, ofPattern, patternName, textureNames, paletteNames, ObjectReply, MaterialReply, Reply, Call, check, find, on, Answer, answer}
 
 -- what is promised of an answer: each that is a curve's record tells the frames of its list. Every query has its line.
 
@@ -24,6 +24,8 @@ MaterialTells (uvMatrix frame) r = Unit {0}
 
 abbrev pub QueryTells : {k : Kind} (q : Query k) → Reply q → Type 0
 QueryTells (ofObject object q) r = ObjectTells q r
+QueryTells (pose frame out) r = Unit {0}
+QueryTells (clip first frames out) r = Unit {0}
 QueryTells (ofMaterial track q) r = MaterialTells q r
 QueryTells (materialName track) r = Unit {0}
 QueryTells (ofPattern track q) r = Unit {0}

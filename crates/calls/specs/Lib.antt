@@ -6,6 +6,7 @@ pub mod BothCut
 pub mod Finding
 pub mod Samples
 pub mod ScaleValues
+pub mod Poses
 pub mod FramesTold
 pub mod Evaluate
 pub mod Pinned

@@ -3,13 +3,13 @@ use mathlib.Core.Path.{_≡_, refl, sym, ap, _∙_, subst}
 use mathlib.Core.Logic.{_⊎_, inl, inr}
 use mathlib.Core.Bool.{Bool, true, false, cond, true≢false}
 use Prim.Native.Nat.{ℕ, _+_, _-_, _*_, _/_, _%_, _^_, _≤_, _<_}
-use native.Mathlib.Nat.{eq-or-lt-of-le, le-trans, le-of-eq, lt-of-le-of-lt, mul-one, one-mul, mul-comm, mul-assoc, mul-left-comm, mul-le-mul-right, mul-lt-mul-of-pos-right, mul-pos, div-lt-iff-lt-mul, mul-mod-left}
+use native.Mathlib.Nat.{eq-or-lt-of-le, le-trans, le-of-eq, lt-of-le-of-lt, mul-one, one-mul, mul-comm, mul-assoc, mul-left-comm, mul-le-mul-right, mul-lt-mul-of-pos-right, mul-pos, div-lt-iff-lt-mul, mul-mod-left, div-add-mod'}
 use native.Mathlib.Omega.{arith}
 use lib.Dec.{T, eqb, le→leb, lit≤, lit<}
 use lib.IntN.{pos}
-use borrow.Author.Tests.{eqb-false}
-use lib.Ieee.{Float, fin, binary64, up, down, round, mul, div, ofInt, inFloat}
-use lib.Ieee.Fits.{down-pos}
+use borrow.Author.Tests.{eqb-true, eqb-false}
+use lib.Ieee.{Float, fin, binary64, up, down, round, sub, mul, div, ofInt, fits, inFloat}
+use lib.Ieee.Fits.{down-pos, mul-fits}
 use lib.Ieee.Exact.{HasValue}
 use lib.Ieee.Back.{round-whole}
 use lib.Ieee.Nearest.{div-mono}
@@ -18,6 +18,8 @@ use lib.Ieee.Positive.{num, den, den-pos}
 use Rattle.util.specs.Within.{Under, Upto}
 use Rattle.util.proofs.RoundLaws.{quotient}
 use Rattle.util.proofs.WithinLaws.{round-upto}
+use Rattle.util.proofs.ExactLaws.{same-less}
+use Rattle.matrix.specs.Matrix.{f0}
 use Rattle.curve.specs.Curve.{floor, ceil, ofWhole, index}
 
 -- a whole number up to 2 ^ 53 is a float as it is
@@ -52,6 +54,11 @@ place-upto a b m B h L M =
     (round-upto (num f * m) (den f) m (den-pos f) M
     (le-trans (mul-le-mul-right m (upto-cross f 1 u)) (le-of-eq (ap (λ (z : ℕ). z * m) (one-mul (den f)) ∙ mul-comm (den f) m))))
 
+-- .. and an f64 holds it
+pub index-held : (start end frame n : ℕ) → T (fits binary64 (index start end frame n))
+unfolding index
+index-held start end frame n = mul-fits binary64 _ _
+
 -- ---- its whole parts
 pub under-of : (x : Float) (n k : ℕ) → n < k → Upto x n → Under x k
 under-of (fin s m e) n k h u = (u .0, lt-of-le-of-lt (u .1) (mul-lt-mul-of-pos-right h (down-pos e)))
@@ -79,11 +86,30 @@ ceil-le x n u = go (eqb (num x % den x) 0) refl
         less (inl p) = absurd (eqb-false (num x % den x) 0 e (ap (λ (z : ℕ). z % den x) p ∙ mul-mod-left n (den x)))
         less (inr l) = let k : num x / den x < n = div-lt-iff-lt-mul (den-pos x) .1 l in omega arith
 
+-- a number is its whole part where that is the same from above
+all-whole : (x : Float) → floor x ≡ ceil x → num x ≡ floor x * den x
+unfolding floor ceil
+all-whole x = go (eqb (num x % den x) 0) refl
+  where
+    go : (b : Bool) → eqb (num x % den x) 0 ≡ b → num x / den x ≡ num x / den x + cond b 0 1 → num x ≡ num x / den x * den x
+    go true e h = let r = div-add-mod' (num x) (den x) in let z = eqb-true (num x % den x) 0 e in omega arith
+    go false e h = absurd (omega arith)
+
+-- .. and then it is +0 past its whole part
+pub no-rest : (x : Float) (n : ℕ) → n ≤ 2 ^ 53 → Upto x n → floor x ≡ ceil x → sub binary64 x (ofWhole (floor x)) ≡ f0
+no-rest x n N u h = same-less x (ofWhole (floor x)) (floor x) (value x u (all-whole x h)) (unfold ofInt in round-whole binary64 false (floor x) (le-trans (floor-le x n u) N))
+  where
+    value : (x : Float) → Upto x n → num x ≡ floor x * den x → HasValue x false (floor x) 1
+    value (fin s m e) u h = (u .0, mul-one (m * up e) ∙ h)
+
 -- ---- at a frame between start and end - 1
 module _ (start end frame n : ℕ) (h : start < frame) (k : frame + 1 < end) (E : end < 65536) (N : 1 ≤ n) (L : n ≤ 65536) where
   pub index-upto : Upto (index start end frame n) (n - 1)
   unfolding index
   index-upto = place-upto (frame - start) (end - 1 - start) (n - 1) (omega arith) (omega arith) (omega arith) (omega arith)
+
+  pub index-rest : floor (index start end frame n) ≡ ceil (index start end frame n) → sub binary64 (index start end frame n) (ofWhole (floor (index start end frame n))) ≡ f0
+  index-rest = no-rest (index start end frame n) (n - 1) (omega arith) index-upto
 
   pub index-under : Under (index start end frame n) 65536
   index-under = under-of (index start end frame n) (n - 1) 65536 (omega arith) index-upto

@@ -8,7 +8,9 @@ use native.Mathlib.Omega.{arith}
 use borrow.Author.Tests.{leb-false}
 use lib.Dec.{leb, lit≤, lit<}
 use lib.ListN.{length, length-map, getD}
-use lib.Ieee.{Float}
+use lib.IntN.{pos}
+use lib.Ieee.{Float, binary64}
+use lib.Ieee.Fits.{ofInt-fits}
 use lib.Pow.{pow-pos}
 use Rattle.util.specs.Fixed.{Fix, width}
 use Rattle.util.proofs.All.{Each, each-getD, Many}
@@ -19,7 +21,7 @@ use Rattle.matrix.specs.declared.Mat3.{Mat3}
 use Rattle.matrix.specs.Matrix.{identity3}
 use Rattle.matrix.proofs.MagnitudeLaws.{Three, Nine, three}
 use Rattle.curve.specs.Curve.{ListRecord, FramesTold, Curve, none, constant, samples, sampleCount, numberOf, Pair, pairOf, firsts, floor, ceil, ofWhole, index, mix, mixCol, mixMat, between, sampleList, sampleAt, RecordTells, recorded}
-use Rattle.curve.proofs.IndexLaws.{index-upto, floor-le}
+use Rattle.curve.proofs.IndexLaws.{index-held, index-upto, floor-le}
 
 -- g is the fraction, and its bound is crude
 pub mix-small : (lo hi g : Float) → Small lo → Small hi → Below 17 g → Mixed (mix lo hi g)
@@ -89,8 +91,8 @@ module _ {X : Type 0} (P Q : X → Type 0) (mixed : X → X → Float → X) (ke
           let n = list-few P r vs h in
           let u = index-upto (r .start) (r .end) frame (length vs) a (omega arith) (h .ends) N (omega arith) in
           let l : floor i ≤ length vs - 1 = floor-le i (length vs - 1) u in
-          let v : Below 16 i = record { within = within-le i (length vs - 1) (2 ^ 16) (omega arith) (upto-within i (length vs - 1) u) } in
-          let w : Below 16 (ofWhole (floor i)) = record { within = within-whole (floor i) (2 ^ 16) (omega arith) (lit≤ tt) } in
+          let v : Below 16 i = record { held = index-held (r .start) (r .end) frame (length vs); within = within-le i (length vs - 1) (2 ^ 16) (omega arith) (upto-within i (length vs - 1) u) } in
+          let w : Below 16 (ofWhole (floor i)) = record { held = ofInt-fits binary64 (pos (floor i)); within = within-whole (floor i) (2 ^ 16) (omega arith) (lit≤ tt) } in
           mixes _ _ _ (at (floor i)) (at (ceil i)) (below-sub v w (lit≤ tt))
 
   pub sample-sized : (c : Curve X) → SizedCurve P c → (frame : ℕ) → Q (sampleAt mixed default c frame)

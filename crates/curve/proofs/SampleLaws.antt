@@ -1,16 +1,19 @@
 -- What is sampled of a list that stands in a section. Assumes nothing.
 use Prim.Native.Nat.{ℕ, suc, _+_, _-_, _*_, _≤_, _<_}
+use mathlib.Core.Bool.{Bool, true, false, cond}
 use mathlib.Core.List.{List, [], _∷_}
-use mathlib.Core.Path.{_≡_, refl, sym, ap, _∙_}
+use mathlib.Core.Path.{_≡_, refl, sym, ap, subst, _∙_}
 use native.Mathlib.Nat.{mul-le-mul-left, mul-suc}
 use native.Mathlib.Omega.{arith}
-use borrow.Author.Tests.{le-leb, lt-leb, le-ltb, lt-ltb}
+use borrow.Author.Tests.{lt-leb, le-ltb, lt-ltb}
+use lib.Dec.{leb}
 use lib.ListN.{length, take, drop, getD}
 use lib.Seq.{take-take, drop-drop}
 use lib.Ieee.{Float}
 use Rattle.util.specs.Fixed.{Fix, fixed}
 use Rattle.util.specs.View.{little}
 use Rattle.util.specs.Reader.{answered, denied}
+use Rattle.matrix.specs.Matrix.{f0}
 use Rattle.util.proofs.Cut.{take-drop-take}
 use Rattle.util.proofs.ViewLaws.{view-length, view-there, view-map}
 use Rattle.curve.specs.declared.Number.{Number}
@@ -19,7 +22,8 @@ use Rattle.curve.specs.declared.ListRecord.{ListRecord as CodeRecord}
 use Rattle.curve.specs.declared.Spot.{Spot}
 use Rattle.curve.specs.declared.ScalarCurve.{ScalarCurve}
 use Rattle.curve.specs.Curve.{ListRecord, countedFrom, Curve, samples, sampleCount, stored, numberBytes, numberOf, Pair, pairOf, firsts, pairAt, index, between, sampleList, sampleAt, Recorded, listed, recorded}
-use Rattle.curve.specs.CurveCode.{spotAt, formatMeans, listMeans, listRecordMeans, valuesIn, curveIn, scalarCurve, pairCurve, InsideList, Inside, InsideOf}
+use Rattle.curve.specs.CurveCode.{spotAt, onValue, spotOf, SpotIn, formatMeans, listMeans, listRecordMeans, valuesIn, curveIn, scalarCurve, pairCurve, InsideList, Inside, InsideOf}
+use Rattle.curve.proofs.IndexLaws.{index-rest}
 
 -- ---- the values of a list that stands in a section
 
@@ -96,6 +100,21 @@ first-inside n h s (ScalarCurve.Samples l number) i = i .0
 
 -- ---- a list of values of any type, at a frame
 
+-- value k is where a frame falls
+pub on-value-in : (l : SampleList) (frame k : ℕ) → k < l .length → onValue k ≡ spotOf l frame → (p : Spot) → p ≡ onValue k → SpotIn l frame p
+on-value-in l frame k h e p q = rw q (record { is = e; first = h; second = h; exact = λ _. refl })
+
+-- it falls between start and end - 1
+pub index-in : (l : SampleList) (frame : ℕ) → 1 ≤ l .length → l .length ≤ 65536 → l .start < frame → frame < l .end - 1 → l .end < 65536
+    → (p : Spot) → p ≡ spotAt (index (l .start) (l .end) frame (l .length)) → p .lo ≤ p .hi → p .hi < l .length → SpotIn l frame p
+index-in l frame N L a b E p q le h =
+    record {
+      is = q ∙ rw (lt-leb frame (l .start) a, lt-leb (l .end - 1) frame b) refl;
+      first = omega arith;
+      second = h;
+      exact = subst (λ (x : Spot). x .lo ≡ x .hi → x .g ≡ f0) (sym q) (index-rest (l .start) (l .end) frame (l .length) a (omega arith) E N L);
+    }
+
 module _ {A : Type 0} (mixed : A → A → Float → A) (default : A) (r : ListRecord) (frame : ℕ) where
   empty : (vs : List A) → length vs ≡ 0 → default ≡ sampleAt mixed default (samples r vs) frame
   unfolding sampleAt
@@ -117,21 +136,48 @@ module _ {A : Type 0} (mixed : A → A → Float → A) (default : A) (l : Sampl
   by-values : 1 ≤ l .length → sampled ≡ sampleList mixed default (listMeans l) values frame
   by-values h = not-empty mixed default (listMeans l) frame values (rw count h)
 
-  -- up to the start, from the last frame on, and between
-  pub sample-first : 1 ≤ l .length → frame ≤ l .start → (r : A) → r ≡ getD values 0 default → r ≡ sampled
-  unfolding sampleList
-  sample-first h b r e = e ∙ sym (by-values h ∙ rw (le-leb frame (l .start) b) refl)
+  -- the place and the value, by what the tests for the first and for the last say
+  abbrev placeBy : (first last : Bool) → Spot
+  placeBy first last = cond first (onValue 0) (cond last (onValue (l .length - 1)) (spotAt (index (l .start) (l .end) frame (l .length))))
 
-  pub sample-last : 1 ≤ l .length → l .start < frame → l .end - 1 ≤ frame → (r : A) → r ≡ getD values (l .length - 1) default → r ≡ sampled
-  unfolding sampleList
-  sample-last h a b r e = e ∙ sym (by-values h ∙ rw (lt-leb frame (l .start) a, le-leb (l .end - 1) frame b, count) refl)
+  abbrev valueBy : (first last : Bool) → A
+  valueBy first last = cond first (getD values 0 default) (cond last (getD values (l .length - 1) default) (between mixed default values (index (l .start) (l .end) frame (l .length))))
 
-  pub sample-between : 1 ≤ l .length → l .start < frame → frame < l .end - 1 → (p : Spot) → p ≡ spotAt (index (l .start) (l .end) frame (l .length))
-      → (lo hi r : A) → lo ≡ getD values (p .lo) default → hi ≡ getD values (p .hi) default → r ≡ mixed lo hi (p .g) → r ≡ sampled
-  unfolding sampleList between
-  sample-between h a b p q lo hi r e f g =
-      let at-spot = ap (λ (x : Spot). mixed (getD values (x .lo) default) (getD values (x .hi) default) (x .g)) (sym q) in
-      g ∙ sym (by-values h ∙ rw (lt-leb frame (l .start) a, lt-leb (l .end - 1) frame b, count) (at-spot ∙ rw (sym e, sym f) refl))
+  by-tests : 1 ≤ l .length → sampled ≡ valueBy (leb frame (l .start)) (leb (l .end - 1) frame)
+  unfolding sampleList
+  by-tests h = by-values h ∙ rw count refl
+
+  -- at the places next to the frame
+  module _ (h : 1 ≤ l .length) (p : Spot) (at : SpotIn l frame p) where
+    abbrev mixedAt : Spot → A
+    mixedAt x = mixed (getD values (x .lo) default) (getD values (x .hi) default) (x .g)
+
+    -- one value, which is the same when it is mixed with itself
+    pub sample-on : p .lo ≡ p .hi → (r : A) → mixed r r f0 ≡ r → r ≡ getD values (p .lo) default → r ≡ sampled
+    sample-on one r still e = go (leb frame (l .start)) (leb (l .end - 1) frame) (at .is) ∙ sym (by-tests h)
+      where
+        edge : (k : ℕ) → p ≡ onValue k → r ≡ getD values k default
+        edge k q = e ∙ ap (λ (x : Spot). getD values (x .lo) default) q
+
+        here : r ≡ mixedAt p
+        here = sym still ∙ rw (at .exact one, sym one, sym e) refl
+
+        go : (x y : Bool) → p ≡ placeBy x y → r ≡ valueBy x y
+        go true y q = edge 0 q
+        go false true q = edge (l .length - 1) q
+        go false false q = unfold between in here ∙ ap mixedAt q
+
+    -- two values
+    pub sample-between : (p .lo ≡ p .hi → ⊥) → (lo hi r : A) → lo ≡ getD values (p .lo) default → hi ≡ getD values (p .hi) default → r ≡ mixed lo hi (p .g) → r ≡ sampled
+    sample-between two lo hi r a b e = go (leb frame (l .start)) (leb (l .end - 1) frame) (at .is) ∙ sym (by-tests h)
+      where
+        edge : {X : Type 0} (k : ℕ) → p ≡ onValue k → X
+        edge k q = absurd (two (ap (λ (x : Spot). x .lo) q ∙ sym (ap (λ (x : Spot). x .hi) q)))
+
+        go : (x y : Bool) → p ≡ placeBy x y → r ≡ valueBy x y
+        go true y q = edge 0 q
+        go false true q = edge (l .length - 1) q
+        go false false q = unfold between in e ∙ rw (a, b) (ap mixedAt q)
 
 -- a curve, once its variant is known
 pub sample-as : {A C : Type 0} (mixed : A → A → Float → A) (default : A) (curve : C → Curve A) (c known : C) → c ≡ known

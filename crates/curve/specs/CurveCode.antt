@@ -1,11 +1,15 @@
 -- What the structs of curve's code stand for. Assumes nothing.
-use Prim.Native.Nat.{ℕ, _+_, _-_, _*_, _≤_}
+use Prim.Native.Nat.{ℕ, _+_, _-_, _*_, _≤_, _<_}
+use mathlib.Core.Bool.{cond}
 use mathlib.Core.List.{List}
+use mathlib.Core.Path.{_≡_}
+use lib.Dec.{leb}
 use lib.Ieee.{Float, binary64, sub}
 use lib.ListN.{length, drop}
 use Rattle.util.specs.View.{view}
 use Rattle.util.specs.Reader.{Verdict, answered, denied}
 use Rattle.util.specs.Fixed.{Fix, fix1-19-12, fix1-3-12, fix1-10-5}
+use Rattle.matrix.specs.Matrix.{f0}
 use Rattle.curve.specs.declared.Spot.{Spot}
 use Rattle.curve.specs.declared.Number.{Number}
 use Rattle.curve.specs.declared.Number.the-variants.{Fix1_19_12, Fix1_3_12, Fix1_10_5}
@@ -17,11 +21,28 @@ use Rattle.curve.specs.declared.ScalarRecord.{ScalarRecord}
 use Rattle.curve.specs.declared.Pair.{Pair as CodePair}
 use Rattle.curve.specs.declared.PairRecord.{PairRecord}
 use Rattle.curve.specs.declared.PairAnswer.{PairAnswer}
-use Rattle.curve.specs.Curve.{leftOver, ListRecord, Curve, none, constant, samples, numberBytes, numberOf, Pair, pairOf, floor, ceil, ofWhole, Recorded, noCurve, always, listed}
+use Rattle.curve.specs.Curve.{leftOver, ListRecord, Curve, none, constant, samples, numberBytes, numberOf, Pair, pairOf, floor, ceil, ofWhole, index, Recorded, noCurve, always, listed}
 
 -- the places around i
 abbrev pub spotAt : Float → Spot
 spotAt i = record { lo = floor i; hi = ceil i; g = sub binary64 i (ofWhole (floor i)) }
+
+-- value k itself
+abbrev pub onValue : ℕ → Spot
+onValue k = record { lo = k; hi = k; g = f0 }
+
+-- in a list: up to start the first value, from end - 1 the last, else the places around the frame's index
+abbrev pub spotOf : SampleList → ℕ → Spot
+spotOf l frame =
+    cond (leb frame (l .start)) (onValue 0)
+    (cond (leb (l .end - 1) frame) (onValue (l .length - 1)) (spotAt (index (l .start) (l .end) frame (l .length))))
+
+-- that spot: both places are in the list, and where they are one, the frame falls on it
+pub record SpotIn (l : SampleList) (frame : ℕ) (p : Spot) : Type 0 where
+  pub is : p ≡ spotOf l frame
+  pub first : p .lo < l .length
+  pub second : p .hi < l .length
+  pub exact : p .lo ≡ p .hi → p .g ≡ f0
 
 abbrev pub formatMeans : Number → Fix
 formatMeans Fix1_19_12 = fix1-19-12

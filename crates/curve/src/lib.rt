@@ -14,7 +14,7 @@ ghost use lib.ListN.{length, drop};
 ghost use Rattle.util.specs.Fixed.{fix1-19-12};
 ghost use Rattle.util.specs.Within.{Under};
 ghost use Rattle.curve.specs.Curve.{sampleCount, countedFrom, index, mix, mixCol, mixMat, sampleAt, numberBytes, numberOf, pairOf, pairAt, recorded};
-ghost use Rattle.curve.specs.CurveCode.{spotAt, formatMeans, listMeans, listRecordMeans, Framed, scalarCurve, pairCurve, InsideList, Inside, InsideOf, recordMeans, pairMeans, pairRecordMeans, pairAnswerMeans};
+ghost use Rattle.curve.specs.CurveCode.{spotAt, onValue, SpotIn, formatMeans, listMeans, listRecordMeans, Framed, scalarCurve, pairCurve, InsideList, Inside, InsideOf, recordMeans, pairMeans, pairRecordMeans, pairAnswerMeans};
 ghost use Rattle.curve.specs.Curve as spec;
 
 // How the numbers of a value are stored.
@@ -113,7 +113,7 @@ pub struct Spot {
 }
 
 // Where a frame falls among n values.
-pub fn locate(start: u16, end: u16, frame: u16, n: u64) -> Spot
+fn locate(start: u16, end: u16, frame: u16, n: u64) -> Spot
     requires { ⌜ (start < frame) × (frame + 1 < end) × (1 ≤ n) × (n ≤ 65536) ⌝ }
     ensures { λ r. ⌜ (r ≡ spotAt (index start end frame n)) × (r .lo ≤ r .hi) × (r .hi < n) ⌝ }
 {
@@ -125,6 +125,32 @@ pub fn locate(start: u16, end: u16, frame: u16, n: u64) -> Spot
     let hi = ceil(i);
     let g = i - lo as f64;
     Spot { lo, hi, g }
+}
+
+// Value k itself.
+fn on_value(k: u64) -> Spot
+    ensures { λ r. ⌜ r ≡ onValue k ⌝ }
+{
+    Spot {
+        lo: k,
+        hi: k,
+        g: 0.0,
+    }
+}
+
+// The values next to a frame: up to start the first, from end - 1 the last, else as `locate` finds them.
+pub fn spot_of(l: SampleList, frame: u16) -> Spot
+    requires { ⌜ (l .start < l .end) × (1 ≤ l .length) ⌝ }
+    ensures { λ r. ⌜ SpotIn l frame r ⌝ }
+{
+    if frame <= l.start {
+        return on_value(0);
+    }
+    let n = l.length as u64;
+    if l.end - 1 <= frame {
+        return on_value(n - 1);
+    }
+    locate(l.start, l.end, frame, n)
 }
 
 // The value at g between two values.
@@ -173,14 +199,12 @@ fn sample_list(s: &[u8], l: SampleList, number: Number, frame: u16) -> f64
     requires { ⌜ (InsideList (now s) l number) × (1 ≤ l .length) ⌝ }
     ensures { λ r. ⌜ ((default : Float) → r ≡ sampleAt mix default (scalarCurve (now (s .entry)) (ScalarCurve.Samples l number)) frame) ⌝ }
 {
-    if frame <= l.start {
-        return value(s, l.place, l.size, number, 0);
-    }
-    if l.end - 1 <= frame {
-        return value(s, l.place, l.size, number, l.length as usize - 1);
-    }
-    let p = locate(l.start, l.end, frame, l.length as u64);
+    let p = spot_of(l, frame);
     let lo = value(s, l.place, l.size, number, p.lo as usize);
+    // mixed with itself it would be the same: g is +0 here
+    if p.lo == p.hi {
+        return lo;
+    }
     let hi = value(s, l.place, l.size, number, p.hi as usize);
     lerp(lo, hi, p.g)
 }

@@ -17,6 +17,7 @@ use words::put_found;
 use words::put_list;
 use words::put_material;
 use words::put_name;
+use words::put_objects;
 use words::put_record;
 use words::put_resampling;
 use words::put_rotation;
@@ -28,15 +29,17 @@ ghost use mathlib.Core.Path.{_≡_};
 ghost use lib.ListN.{length};
 ghost use lib.Seq.{sets};
 ghost use Rattle.util.specs.Reader.{told, number};
+ghost use Rattle.matrix.specs.Matrix.{floatsOf};
 ghost use Rattle.animation.specs.Animation.{translation, scale};
 ghost use Rattle.gltf.specs.Curve.{sliceOf};
+ghost use Rattle.pose.specs.Pose.{posedSlice};
 ghost use Rattle.nitro.specs.Container.{jnt, srt, pat};
 ghost use Rattle.calls.specs.Calls.{answer, on, ofObject, matrixBytes, curve, scaleValue, rotationCurve, resampled, ofMaterial, uvMatrix, channelCurve, materialName, ofPattern, chosen, textureNames, paletteNames, patternName, bytesAfter};
 ghost use Rattle.calls.specs.Calls as calls;
 ghost use Rattle.calls.specs.Material as material;
 ghost use Rattle.pattern_section.specs.Written.{lent};
 ghost use Rattle.listing.specs.Listing.{listing};
-ghost use Rattle.words.specs.Words.{Writes, nameWords, checked, recordWords, curveWords, curveFloats, oneFloat, twoFloats, nineFloats, sixteenFloats, listedWords, chosenWords, shiftFloats, materialWords, resampledWords, foundWords, WritesPattern};
+ghost use Rattle.words.specs.Words.{Writes, nameWords, checked, recordWords, curveWords, curveFloats, oneFloat, twoFloats, nineFloats, listedWords, chosenWords, shiftFloats, materialWords, resampledWords, posedWords, foundWords, WritesPattern};
 
 // Whether an entry is whole: the number of its check.
 #[no_mangle]
@@ -71,6 +74,36 @@ pub extern "C" fn motion_matrix(
             0
         }
     }
+}
+
+// The matrices of all objects of a JNT0 entry at a frame, from the start of `out`: sixteen floats each, column by column; and how many objects
+// there are. What stands behind them in `out` keeps its contents, and so does all of it where the call refuses.
+#[no_mangle]
+pub extern "C" fn motion_pose(
+    s: &[u8],
+    entry: usize,
+    frame: u16,
+    out: &mut [f64],
+    objects: &mut [u64; 1],
+) -> u32
+    ensures { λ r. ⌜ Writes posedWords (told (answer (on jnt entry (calls.pose frame (now (out .entry)))) (now (s .entry)))) r (now (objects .entry)) (now (objects .exit)) × (now (out .exit) ≡ posedSlice (now (out .entry)) (told (answer (on jnt entry (calls.pose frame (now (out .entry)))) (now (s .entry))))) ⌝ }
+{
+    put_objects(jnt::pose(s, entry, frame, out), objects)
+}
+
+// Likewise at so many frames from `first` on, one pose after the other.
+#[no_mangle]
+pub extern "C" fn motion_clip(
+    s: &[u8],
+    entry: usize,
+    first: u16,
+    frames: usize,
+    out: &mut [f64],
+    objects: &mut [u64; 1],
+) -> u32
+    ensures { λ r. ⌜ Writes posedWords (told (answer (on jnt entry (calls.clip first frames (now (out .entry)))) (now (s .entry)))) r (now (objects .entry)) (now (objects .exit)) × (now (out .exit) ≡ posedSlice (now (out .entry)) (told (answer (on jnt entry (calls.clip first frames (now (out .entry)))) (now (s .entry))))) ⌝ }
+{
+    put_objects(jnt::clip(s, entry, first, frames, out), objects)
 }
 
 // The record of an entry: the two words of its name, its reach, its frames, and how many objects or tracks it has.
@@ -172,7 +205,7 @@ pub extern "C" fn motion_uv_matrix(
     frame: u16,
     out: &mut [f64; 16],
 ) -> u32
-    ensures { λ r. ⌜ Writes sixteenFloats (told (answer (on srt entry (ofMaterial track (uvMatrix frame))) (now (s .entry)))) r (now (out .entry)) (now (out .exit)) ⌝ }
+    ensures { λ r. ⌜ Writes floatsOf (told (answer (on srt entry (ofMaterial track (uvMatrix frame))) (now (s .entry)))) r (now (out .entry)) (now (out .exit)) ⌝ }
 {
     put_sixteen(srt::uv_matrix(s, entry, track, frame), out)
 }

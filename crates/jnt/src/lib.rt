@@ -1,4 +1,4 @@
-// The public calls on an object of a JNT0 entry.
+// The public calls on an object of a JNT0 entry, and on all of them.
 mod opened;
 
 use crate::opened::ObjectOpen;
@@ -8,6 +8,10 @@ use calls::MatrixAnswer;
 use curve::PairAnswer;
 use gltf::Resampling;
 use gltf::resample_triple;
+use nitro::entry::AnimationOpen;
+use nitro::entry::open_animation;
+use pose::Posing;
+use pose::film;
 use trs::CurveRecord;
 use trs::RotationAnswer;
 use trs::ScaleRecord;
@@ -24,6 +28,7 @@ ghost use Rattle.animation.specs.AnimationCode.{tripleMeans};
 ghost use Rattle.trs.specs.TrsCode.{curveMeans, scaleMeans, rotationAnswerMeans};
 ghost use Rattle.gltf.specs.CurveCode.{resamplingMeans};
 ghost use Rattle.gltf.specs.Curve.{sliceOf};
+ghost use Rattle.pose.specs.PoseCode.{Poses};
 ghost use Rattle.nitro.specs.Container.{jnt};
 ghost use Rattle.calls.specs.Calls.{answer, on, ofObject, curve, scaleValue, rotationCurve, resampled};
 ghost use Rattle.calls.specs.Calls as calls;
@@ -122,4 +127,25 @@ pub fn resample(
             resample_triple(here, object_at(here, a, object), which, out, place)
         }
     }
+}
+
+// The matrices of all objects at so many frames from `first` on, one pose after the other, into a lent slice from its start: sixteen floats
+// each, column by column.
+pub fn clip(s: &[u8], entry: usize, first: u16, frames: usize, out: &mut [f64]) -> Posing
+    ensures { λ r. ⌜ Poses (told (answer (on jnt entry (calls.clip first frames (now (out .entry)))) (now (s .entry)))) r (now (out .entry)) (now (out .exit)) ⌝ }
+{
+    match open_animation(s, entry) {
+        AnimationOpen::Refused(n) => Posing::Refused(n),
+        AnimationOpen::At(e, a) => {
+            let off = e.offset as usize;
+            film(&s[off..], a, first, frames, out)
+        }
+    }
+}
+
+// The matrices of all objects at a frame: a clip of one frame.
+pub fn pose(s: &[u8], entry: usize, frame: u16, out: &mut [f64]) -> Posing
+    ensures { λ r. ⌜ Poses (told (answer (on jnt entry (calls.pose frame (now (out .entry)))) (now (s .entry)))) r (now (out .entry)) (now (out .exit)) ⌝ }
+{
+    clip(s, entry, frame, 1, out)
 }

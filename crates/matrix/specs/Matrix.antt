@@ -1,7 +1,7 @@
 -- Matrices of floats, column by column. Assumes nothing.
 use Prim.Native.Nat.{ℕ}
 use mathlib.Core.Bool.{false}
-use mathlib.Core.List.{List, _++_}
+use mathlib.Core.List.{List, [], _∷_, _++_}
 use lib.IntN.{pos}
 use lib.Ieee.{Float, fin, binary64, add, sub, mul, toBits}
 use Rattle.util.specs.View.{littleBytes}
@@ -69,7 +69,14 @@ minor p q r s = sub binary64 (mul binary64 p q) (mul binary64 r s)
 abbrev pub cross : Col3 → Col3 → Col3
 cross a b = col3 (minor (a .y) (b .z) (a .z) (b .y)) (minor (a .z) (b .x) (a .x) (b .z)) (minor (a .x) (b .y) (a .y) (b .x))
 
--- ---- a matrix as bytes
+-- ---- a matrix as floats, and as bytes
+
+abbrev pub columnFloats : Col4 → List Float
+columnFloats c = c .x ∷ c .y ∷ c .z ∷ c .w ∷ []
+
+-- sixteen floats, column by column
+abbrev pub floatsOf : Mat4 → List Float
+floatsOf m = columnFloats (m .c0) ++ (columnFloats (m .c1) ++ (columnFloats (m .c2) ++ columnFloats (m .c3)))
 
 abbrev pub floatBytes : Float → List ℕ
 floatBytes x = littleBytes 8 (toBits binary64 x)

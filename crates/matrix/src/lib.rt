@@ -154,3 +154,25 @@ pub fn put_matrix(out: &mut [u8], m: Mat4)
     put_column(out, 64, m.c2);
     put_column(out, 96, m.c3);
 }
+
+// A column's four floats, from `at` on.
+fn put_four(out: &mut [f64], at: usize, c: Col4)
+    requires { ⌜ at + 4 ≤ length (now out) ⌝ }
+    ensures { λ _. ⌜ now (out .exit) ≡ sets (now (out .entry)) at (spec.columnFloats c) ⌝ }
+{
+    out[at] = c.x;
+    out[at + 1] = c.y;
+    out[at + 2] = c.z;
+    out[at + 3] = c.w;
+}
+
+// A matrix's sixteen floats, column by column, from `at` on.
+pub fn put_floats(out: &mut [f64], at: usize, m: Mat4)
+    requires { ⌜ at + 16 ≤ length (now out) ⌝ }
+    ensures { λ _. ⌜ now (out .exit) ≡ sets (now (out .entry)) at (spec.floatsOf m) ⌝ }
+{
+    put_four(out, at, m.c0);
+    put_four(out, at + 4, m.c1);
+    put_four(out, at + 8, m.c2);
+    put_four(out, at + 12, m.c3);
+}

@@ -1,26 +1,28 @@
 -- A pattern entry's keys, its tracks and its run, by what the entry's bytes hold. Assumes nothing.
-use Prim.Native.Nat.{ℕ, suc, _+_, _-_, _*_, max, _≤_, _<_}
-use mathlib.Core.Bool.{Bool, true, false, _&&_, and-false, and-assoc}
+use Prim.Native.Nat.{ℕ, suc, _+_, _-_, _*_, _/_, min, max, _≤_, _<_}
+use mathlib.Core.Bool.{Bool, true, false, _&&_, and-true, and-assoc}
 use mathlib.Core.List.{List, [], _∷_, _++_}
 use mathlib.Core.Logic.{⊎-elim}
 use mathlib.Core.Path.{_≡_, refl, sym, ap, _∙_}
 use native.Mathlib.Nat.{add-zero}
 use native.Mathlib.Numerals.{add-one}
 use native.Mathlib.Omega.{arith}
-use borrow.Author.Tests.{lt-ltb, le-ltb}
+use borrow.Author.Tests.{lt-ltb, le-ltb, ltb-true, ltb-false}
 use lib.Dec.{ltb}
 use lib.ListN.{length, take, drop, getD, drop-of-length-le}
 use lib.Seq.{drop-cons}
+use Rattle.util.specs.Bits.{bits}
 use Rattle.util.specs.View.{wordAt, view}
 use Rattle.util.specs.declared.cur.Tally.{Tally}
 use Rattle.util.specs.declared.cur.Tally.the-variants.{Whole, Refused}
 use Rattle.util.specs.Reader.{Reader, done, accepted, refused, run, bind, each, unless}
 use Rattle.util.specs.ReaderCode.{tallyOf}
 use Rattle.util.specs.Sums.{total}
+use Rattle.util.proofs.All.{Bytes, word-lt}
 use Rattle.util.proofs.Cut.{le-or-lt, had, short, past, no-further}
 use Rattle.util.proofs.ReadsLaws.{goes-on, stops, one-value, not-both}
 use Rattle.util.proofs.Each.{counted-of, uncounted-of, from-zero, items-read}
-use Rattle.util.proofs.ViewLaws.{word-part, view-there, view-length, view-take}
+use Rattle.util.proofs.ViewLaws.{word-join, word-part, view-there, view-length, view-take}
 use Rattle.info_block.specs.declared.InfoBlock.{InfoBlock}
 use Rattle.info_block.specs.declared.BlockRead.{BlockRead}
 use Rattle.pattern.specs.declared.ItemList.{ItemList}
@@ -38,6 +40,31 @@ keyAt s p = record { frame = wordAt 2 s p; texture = wordAt 1 s (p + 2); palette
 
 pub key-there : (s : List ℕ) (p : ℕ) → keyOf (take 4 (drop p s)) ≡ keyAt s p
 key-there s p = rw (word-part 2 4 p 0 s (omega arith), word-part 1 4 p 2 s (omega arith), word-part 1 4 p 3 s (omega arith), add-zero p) refl
+
+-- a word of three bytes is below `count` times 65536, or past a byte's 256 times, exactly if its highest byte is below `count`
+pub word-below : (word count : ℕ) → word < 16777216 → ltb word (65536 * min count 256) ≡ ltb (word / 65536) count
+word-below word count h = go (ltb (word / 65536) count) refl
+  where
+    go : (b : Bool) → b ≡ ltb (word / 65536) count → ltb word (65536 * min count 256) ≡ b
+    go true e = let l = ltb-true (word / 65536) count (sym e) in lt-ltb word (65536 * min count 256) (omega arith)
+    go false e = let l = ltb-false (word / 65536) count (sym e) in le-ltb word (65536 * min count 256) (omega arith)
+
+-- a key read as one word: the texture is the highest of its three low bytes, the palette of its three high ones
+pub key-word : (s : List ℕ) (p : ℕ) → Bytes s → p + 4 ≤ length s → (textures palettes : ℕ)
+    → ltb (bits (wordAt 4 s p) 0 24 / 65536) textures && ltb (bits (wordAt 4 s p) 8 32 / 65536) palettes ≡ inside textures palettes (keyOf (take 4 (drop p s)) ∷ [])
+unfolding inside
+key-word s p h l textures palettes =
+    let low : wordAt 2 s p < 65536 = word-lt 2 s p h in
+    let t : wordAt 1 s (p + 2) < 256 = word-lt 1 s (p + 2) h in
+    let q : wordAt 1 s (p + 3) < 256 = word-lt 1 s (p + 3) h in
+    let j : wordAt 2 s (p + 2) ≡ wordAt 1 s (p + 2) + 256 * wordAt 1 s (p + 3) = let m : p + 2 + 1 ≡ p + 3 = omega arith in rw m at (word-join 1 1 s (p + 2) (omega arith)) in
+    let w : wordAt 4 s p ≡ wordAt 2 s p + 65536 * wordAt 2 s (p + 2) = word-join 2 2 s p (omega arith) in
+    let texture : bits (wordAt 4 s p) 0 24 / 65536 ≡ wordAt 1 s (p + 2) = omega arith in
+    let palette : bits (wordAt 4 s p) 8 32 / 65536 ≡ wordAt 1 s (p + 3) = omega arith in
+    ap (λ (x : ℕ). ltb x textures && ltb (bits (wordAt 4 s p) 8 32 / 65536) palettes) texture
+    ∙ ap (λ (x : ℕ). ltb (wordAt 1 s (p + 2)) textures && ltb x palettes) palette
+    ∙ sym (and-true (ltb (wordAt 1 s (p + 2)) textures && ltb (wordAt 1 s (p + 3)) palettes))
+    ∙ ap (λ (k : Key). inside textures palettes (k ∷ [])) (sym (key-there s p))
 
 -- keys are inside where those before and those after are
 pub inside-append : (textures palettes : ℕ) (xs ys : List Key) → inside textures palettes (xs ++ ys) ≡ inside textures palettes xs && inside textures palettes ys
@@ -65,22 +92,13 @@ module _ (s : List ℕ) (place count : ℕ) where
         let l : i < length keys = rw keys-length h in
         rw (drop-cons keys i k l, add-one i) (ap (λ (x : Key). x ∷ drop (suc i) keys) q)
 
-    -- `whole` is whether the keys from i on are inside
-    module _ (textures palettes : ℕ) (whole : Bool) (inv : inside textures palettes (drop i keys) ≡ whole) where
-      inside-first : inside textures palettes (k ∷ drop (i + 1) keys) ≡ whole
-      inside-first = rw (← keys-step) inv
-
-      pub texture-outside : textures ≤ k .texture → false ≡ whole
-      unfolding inside
-      texture-outside l = rw (le-ltb (k .texture) textures l) at inside-first
-
-      pub palette-outside : palettes ≤ k .palette → false ≡ whole
-      unfolding inside
-      palette-outside l = simp (le-ltb (k .palette) palettes l, and-false) at inside-first
-
-      pub both-inside : k .texture < textures → k .palette < palettes → inside textures palettes (drop (i + 1) keys) ≡ whole
-      unfolding inside
-      both-inside l r = rw (lt-ltb (k .texture) textures l, lt-ltb (k .palette) palettes r) at inside-first
+    -- `all` is whether the keys before i are inside, `one` whether key i is, `whole` whether all keys are
+    pub inside-next : (textures palettes : ℕ) (all one whole : Bool) → one ≡ inside textures palettes (keyOf (take 4 (drop (place + 4 * i) s)) ∷ []) → all && inside textures palettes (drop i keys) ≡ whole
+        → (all && one) && inside textures palettes (drop (i + 1) keys) ≡ whole
+    inside-next textures palettes all one whole o inv =
+        let rest = drop (i + 1) keys in
+        let q : inside textures palettes (drop i keys) ≡ one && inside textures palettes rest = ap (inside textures palettes) keys-step ∙ inside-append textures palettes (k ∷ []) rest ∙ ap (λ (b : Bool). b && inside textures palettes rest) (ap (λ (x : Key). inside textures palettes (x ∷ [])) e ∙ sym o) in
+        and-assoc all one (inside textures palettes rest) ∙ ap (λ (b : Bool). all && b) (sym q) ∙ inv
 
     -- `whole` is the index of the first key of a later frame, which is none before i
     module _ (frame whole : ℕ) (inv : i + firstLater (drop i keys) frame ≡ whole) where

@@ -4,13 +4,16 @@ use info_block::InfoBlock;
 use info_block::name::NameFound;
 use info_block::name::find_name;
 use info_block::read;
+use util::bits::bits32;
 use util::cur::Tally;
 use util::cur::greater;
 use util::view::byte;
 use util::view::word16;
 use util::view::word32;
+ghost use mathlib.Core.List.{[], _∷_};
 ghost use mathlib.Core.Path.{_≡_};
-ghost use Prim.Native.Nat.{_+_, _*_, _<_, _≤_};
+ghost use Prim.Native.Nat.{_+_, _*_, _/_, min, _<_, _≤_};
+ghost use lib.Dec.{ltb};
 ghost use lib.ListN.{length, take, drop};
 ghost use Rattle.util.specs.View.{view};
 ghost use Rattle.util.specs.Reader.{run, each};
@@ -65,23 +68,48 @@ fn key_at(s: &[u8], place: usize, k: usize) -> PatternKeyframe
     }
 }
 
-// Whether each key's texture and palette stand in their own lists.
+// The first word past those of three bytes whose highest byte is below `count`.
+fn word_past(count: usize) -> u32
+    ensures { λ r. ⌜ r ≡ 65536 * min count 256 ⌝ }
+{
+    if count < 256 {
+        65536 * (count as u32)
+    } else {
+        0x100_0000
+    }
+}
+
+// Whether the index that is the highest of a word's three bytes is below `count`. The word is compared whole: of keys that are read whole the
+// compiler tests eight at once, and with the index taken out of the word it reads single bytes.
+fn index_below(word: u32, count: usize) -> bool
+    requires { ⌜ word < 16777216 ⌝ }
+    ensures { λ r. ⌜ r ≡ ltb (word / 65536) count ⌝ }
+{
+    word < word_past(count)
+}
+
+// Whether the texture and the palette of key k stand in their own lists. The texture is the highest of the key's three low bytes, the
+// palette of its three high ones.
+fn key_inside(s: &[u8], place: usize, k: usize, textures: usize, palettes: usize) -> bool
+    requires { ⌜ place + 4 * k + 4 ≤ length (now s) ⌝ }
+    ensures { λ r. ⌜ r ≡ inside textures palettes (keyOf (take 4 (drop (place + 4 * k) (now (s .entry)))) ∷ []) ⌝ }
+{
+    let key = word32(s, place + 4 * k);
+    index_below(bits32(key, 0, 24), textures) & index_below(bits32(key, 8, 32), palettes)
+}
+
+// Whether each key's texture and palette stand in their own lists. Every key is tested, so that no step waits for a branch.
 pub fn keys_inside(s: &[u8], place: usize, count: usize, textures: usize, palettes: usize) -> bool
     requires { ⌜ place + 4 * count ≤ length (now s) ⌝ }
     ensures { λ r. ⌜ r ≡ inside textures palettes (view 4 keyOf count (drop place (now (s .entry)))) ⌝ }
 {
+    let mut all = true;
     let mut i: usize = 0;
     while i < count {
-        let key = key_at(s, place, i);
-        if textures <= key.texture_idx.0 as usize {
-            return false;
-        }
-        if palettes <= key.palette_idx.0 as usize {
-            return false;
-        }
+        all = all & key_inside(s, place, i, textures, palettes);
         i += 1;
     }
-    true
+    all
 }
 
 // The keys of the track whose datum stands at `datum`.

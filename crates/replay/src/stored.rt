@@ -3,6 +3,7 @@ use crate::print::print;
 use exports::motion_channel_curve;
 use exports::motion_check;
 use exports::motion_choice;
+use exports::motion_clip;
 use exports::motion_find;
 use exports::motion_keys;
 use exports::motion_material;
@@ -10,6 +11,7 @@ use exports::motion_material_name;
 use exports::motion_matrix;
 use exports::motion_palette_names;
 use exports::motion_pattern_name;
+use exports::motion_pose;
 use exports::motion_record;
 use exports::motion_resample_scale;
 use exports::motion_resample_translation;
@@ -280,6 +282,27 @@ fn run_written(lists: &[u8], c: Call) {
     print_written(n, &count, &out);
 }
 
+// A pose, or a clip of `index` frames.
+fn posing(s: &[u8], c: Call, floats: &mut [f64], objects: &mut [u64; 1]) -> u32 {
+    let room = at_most(c.room, floats.len());
+    let code = c.code;
+    match code {
+        20 => motion_pose(s, c.entry, c.frame, &mut floats[0..room], objects),
+        _ => motion_clip(s, c.entry, c.frame, c.index, &mut floats[0..room], objects),
+    }
+}
+
+fn print_posing(n: u32, objects: &[u64; 1], floats: &[f64; 100]) {
+    print(n, objects, floats, &[]);
+}
+
+fn run_posing(s: &[u8], c: Call) {
+    let mut objects = [WORD; 1];
+    let mut floats = [FLOAT; 100];
+    let n = posing(s, c, &mut floats, &mut objects);
+    print_posing(n, &objects, &floats);
+}
+
 // The call that 25 bytes stand for, on a section.
 pub fn run(s: &[u8], call: &[u8])
     requires { ⌜ 25 ≤ length (now call) ⌝ }
@@ -298,6 +321,7 @@ pub fn run(s: &[u8], call: &[u8])
         17 => run_scale_value(s, c),
         18 => run_material(s, c),
         19 => run_written(s, c),
+        20 | 21 => run_posing(s, c),
         _ => run_two(s, c),
     }
 }

@@ -1,67 +1,94 @@
 -- The table's rule, proved over its rows; the joined low bits. Assumes nothing.
 use Prim.Native.Nat.{ℕ, zero, suc, _+_, _*_, _/_, _%_, _<_}
-use mathlib.Core.Bool.{Bool, true, _&&_, cond}
+use mathlib.Core.Bool.{Bool, true, _&&_}
 use mathlib.Core.List.{List, [], _∷_, map}
-use mathlib.Core.Path.{_≡_, refl, sym, ap, subst, _∙_}
+use mathlib.Core.Path.{_≡_, refl, ap, _∙_}
 use native.Mathlib.Nat.{le-of-suc-le-suc, not-suc-le-zero, mod-lt}
 use native.Mathlib.Omega.{arith}
-use borrow.Author.Tests.{ne-eqb}
+use borrow.Author.Tests.{lt-ltb}
 use lib.Bits.{bitAnd, bitOr, and-mask, or-shifted}
-use lib.Dec.{T, eqb, eqb→eq}
-use lib.Ieee.{Float}
+use lib.Dec.{T, eqb, eqb→eq, lit<}
+use lib.Ieee.{Float, nan}
 use lib.Ieee.Fits.{and-l, and-r}
-use lib.ListN.{length, getD, List·getD-map}
+use lib.ListN.{getD}
 use lib.Pow.{pow-pos}
 use Rattle.util.specs.Bits.{bits}
-use Rattle.util.proofs.ViewLaws.{map-at}
-use Rattle.rotation.specs.declared.Five.{Five}
-use Rattle.matrix.specs.Matrix.{f0}
-use Rattle.rotation.specs.Rotation.{Cell, Z, O, A, B, C, D, rows, letter, placed, put, joined}
+use Rattle.matrix.specs.declared.Col3.{Col3}
+use Rattle.matrix.specs.Matrix.{f0, f1, col3}
+use Rattle.rotation.specs.RotationCode.{digit, valueAt}
+use Rattle.rotation.specs.Rotation.{Cell, Z, O, A, B, C, D, rows, index, placed, put, placedCol, turned, pivotMat, joined}
 
 -- ---- the table
 
-abbrev table : List (List ℕ)
-table = map (map letter) rows
+-- a row's indices, as octal digits
+abbrev octal : ℕ → List Cell → ℕ
+octal n [] = n
+octal n (p ∷ ps) = octal (8 * n + index p) ps
 
-nines : List (List Cell) → Bool
-nines [] = true
-nines (r ∷ rs) = eqb (length r) 9 && nines rs
+abbrev table : List ℕ
+table = map (octal 0) rows
 
-nine : (rs : List (List Cell)) → T (nines rs) → (s : ℕ) → s < length rs → length (getD rs s []) ≡ 9
-unfolding nines
-nine [] t s h = absurd (not-suc-le-zero h)
-nine (r ∷ rs) t zero h = eqb→eq (length r) 9 (and-l (eqb (length r) 9) (nines rs) t)
-nine (r ∷ rs) t (suc s) h = nine rs (and-r (eqb (length r) 9) (nines rs) t) s (le-of-suc-le-suc h)
+-- a test at each number below n
+each : ℕ → (ℕ → Bool) → Bool
+each zero f = true
+each (suc n) f = f 0 && each n (λ k. f (suc k))
 
-pub rule : (s k : ℕ) → s < 9 → k < 9 → getD (getD table s []) k 0 ≡ letter (placed s k)
-unfolding placed nines
-rule s k h l =
-    ap (λ (r : List ℕ). getD r k 0) (List·getD-map (map letter) rows s []) ∙ map-at letter (getD rows s []) k Z 0 (subst (λ (n : ℕ). k < n) (sym (nine rows tt s h)) l)
+at : (n : ℕ) (f : ℕ → Bool) → T (each n f) → (k : ℕ) → k < n → T (f k)
+unfolding each
+at zero f t k h = absurd (not-suc-le-zero h)
+at (suc n) f t zero h = and-l (f 0) _ t
+at (suc n) f t (suc k) h = at n (λ (i : ℕ). f (suc i)) (and-r (f 0) _ t) k (le-of-suc-le-suc h)
 
--- the value by its letter
-abbrev byLetter : ℕ → Float → Float → Float → Float → Float → Float
-byLetter n o a b c d = cond (eqb n 111) o (cond (eqb n 97) a (cond (eqb n 98) b (cond (eqb n 99) c (cond (eqb n 100) d f0))))
+rule : (s k : ℕ) → s < 9 → k < 9 → digit (getD table s 0) k ≡ index (placed s k)
+unfolding each digit placed
+rule s k h l = eqb→eq _ _ (at 9 (right s) (at 9 (λ (i : ℕ). each 9 (right i)) tt s h) k l)
+  where
+    right : ℕ → ℕ → Bool
+    right i j = eqb (digit (getD table i 0) j) (index (placed i j))
 
-spelled : (p : Cell) (o a b c d : Float) → byLetter (letter p) o a b c d ≡ put p o a b c d
-spelled Z o a b c d = refl
-spelled O o a b c d = refl
-spelled A o a b c d = refl
-spelled B o a b c d = refl
-spelled C o a b c d = refl
-spelled D o a b c d = refl
+module _ (s : ℕ) (h : s < 9) where
+  -- every index has a value
+  under : (k : ℕ) → k < 9 → digit (getD table s 0) k < 6
+  under k l = rw (rule s k h l) (cell (placed s k))
+    where
+      cell : (p : Cell) → index p < 6
+      cell Z = lit< tt
+      cell O = lit< tt
+      cell A = lit< tt
+      cell B = lit< tt
+      cell C = lit< tt
+      cell D = lit< tt
 
-module _ (s k : ℕ) (v : Five) (n : ℕ) (e : n ≡ letter (placed s k)) where
-  abbrev here : Float
-  here = put (placed s k) (v .o) (v .a) (v .b) (v .c) (v .d)
+  pub under-three : (k : ℕ) → k < 7 → (k < 7) × (digit (getD table s 0) k < 6) × (digit (getD table s 0) (k + 1) < 6) × (digit (getD table s 0) (k + 2) < 6)
+  under-three k l = (l, under k (omega arith), under (k + 1) (omega arith), under (k + 2) (omega arith))
 
-  -- an arm of the match on the letter
-  pub arm : (m : ℕ) → n ≡ m → byLetter m (v .o) (v .a) (v .b) (v .c) (v .d) ≡ here
-  arm m h = ap (λ (x : ℕ). byLetter x (v .o) (v .a) (v .b) (v .c) (v .d)) (sym h ∙ e) ∙ spelled (placed s k) (v .o) (v .a) (v .b) (v .c) (v .d)
+  -- the value at a place's index is the one that is put there
+  module _ (o a b c d : Float) where
+    abbrev values : List Float
+    values = f0 ∷ o ∷ a ∷ b ∷ c ∷ d ∷ []
 
-  pub other : (n ≡ 111 → ⊥) → (n ≡ 97 → ⊥) → (n ≡ 98 → ⊥) → (n ≡ 99 → ⊥) → (n ≡ 100 → ⊥) → f0 ≡ here
-  other h1 h2 h3 h4 h5 =
-      let z : f0 ≡ byLetter n (v .o) (v .a) (v .b) (v .c) (v .d) = simp (ne-eqb n 111 h1, ne-eqb n 97 h2, ne-eqb n 98 h3, ne-eqb n 99 h4, ne-eqb n 100 h5) in
-      z ∙ ap (λ (x : ℕ). byLetter x (v .o) (v .a) (v .b) (v .c) (v .d)) e ∙ spelled (placed s k) (v .o) (v .a) (v .b) (v .c) (v .d)
+    value : (k : ℕ) → k < 9 → valueAt (getD table s 0) k values ≡ put (placed s k) o a b c d
+    value k l = rw (rule s k h l) (cell (placed s k))
+      where
+        cell : (p : Cell) → getD values (index p) nan ≡ put p o a b c d
+        cell Z = refl
+        cell O = refl
+        cell A = refl
+        cell B = refl
+        cell C = refl
+        cell D = refl
+
+    abbrev three : ℕ → Col3
+    three k = col3 (valueAt (getD table s 0) k values) (valueAt (getD table s 0) (k + 1) values) (valueAt (getD table s 0) (k + 2) values)
+
+    three-placed : (k : ℕ) → k < 7 → three k ≡ placedCol s k o a b c d
+    three-placed k l = rw (value k (omega arith), value (k + 1) (omega arith), value (k + 2) (omega arith)) refl
+
+    pub by-columns : (neg : ℕ) → o ≡ turned neg 0 f1 → c ≡ turned neg 1 b → d ≡ turned neg 2 a
+        → (x y z : Col3) → x ≡ three 0 → y ≡ three 3 → z ≡ three 6 → record { c0 = x; c1 = y; c2 = z } ≡ pivotMat s neg a b
+    unfolding pivotMat
+    by-columns neg eo ec ed x y z ex ey ez =
+        rw (lt-ltb s 9 h, ← eo, ← ec, ← ed, ex ∙ three-placed 0 (lit< tt), ey ∙ three-placed 3 (lit< tt), ez ∙ three-placed 6 (lit< tt)) refl
 
 -- ---- the joined low bits
 

@@ -31,14 +31,14 @@ rows =
     ∷ (A ∷ B ∷ Z ∷ C ∷ D ∷ Z ∷ Z ∷ Z ∷ O ∷ [])
     ∷ []
 
--- the letter that a place has in the code's table
-abbrev pub letter : Cell → ℕ
-letter Z = 46
-letter O = 111
-letter A = 97
-letter B = 98
-letter C = 99
-letter D = 100
+-- the index that a place has in the code's table
+abbrev pub index : Cell → ℕ
+index Z = 0
+index O = 1
+index A = 2
+index B = 3
+index C = 4
+index D = 5
 
 unfoldable pub placed : ℕ → ℕ → Cell
 placed select k = getD (getD rows select []) k Z

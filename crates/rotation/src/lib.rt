@@ -4,49 +4,41 @@ use matrix::Mat3;
 use util::bits::bit16;
 use util::fixed::Fix1_0_12;
 ghost use mathlib.Core.Path.{_≡_};
-ghost use Prim.Native.Nat.{_<_};
+ghost use Prim.Native.Nat.{_+_, _<_};
+ghost use Rattle.matrix.specs.Matrix.{col3};
 ghost use Rattle.matrix.specs.Matrix as spec;
-ghost use Rattle.rotation.specs.Rotation.{letter, placed, put, placedCol, turned, pivotMat, high, joined, basisMat};
+ghost use Rattle.rotation.specs.RotationCode.{digit, valueAt};
+ghost use Rattle.rotation.specs.Rotation.{turned, pivotMat, high, joined, basisMat};
 
-// Where o, a, b, c and d go, by select, column by column; a dot is +0.
-const ROWS: [[u8; 9]; 9] = [
-    *b"o...ab.cd",
-    *b".o.a.bc.d",
-    *b"..oab.cd.",
-    *b".abo...cd",
-    *b"a.b.o.c.d",
-    *b"ab...ocd.",
-    *b".ab.cdo..",
-    *b"a.bc.d.o.",
-    *b"ab.cd...o",
+// What goes where, by select: an octal digit for each place, column by column. 0 is +0, and 1 to 5 are o, a, b, c and d.
+const ROWS: [u32; 9] = [
+    0o100_023_045,
+    0o010_203_405,
+    0o001_230_450,
+    0o023_100_045,
+    0o203_010_405,
+    0o230_001_450,
+    0o023_045_100,
+    0o203_405_010,
+    0o230_450_001,
 ];
 
-struct Five {
-    o: f64,
-    a: f64,
-    b: f64,
-    c: f64,
-    d: f64,
+// The value that goes to place k: the digits count from the left.
+fn entry(row: u32, k: u32, values: &[f64; 6]) -> f64
+    requires { ⌜ (k < 9) × (digit row k < 6) ⌝ }
+    ensures { λ r. ⌜ r ≡ valueAt row k (now (values .entry)) ⌝ }
+{
+    values[((row >> (24 - 3 * k)) % 8) as usize]
 }
 
-fn place(select: usize, k: usize) -> u8
-    requires { ⌜ (select < 9) × (k < 9) ⌝ }
-    ensures { λ r. ⌜ r ≡ letter (placed select k) ⌝ }
+fn column(row: u32, k: u32, values: &[f64; 6]) -> Col3
+    requires { ⌜ (k < 7) × (digit row k < 6) × (digit row (k + 1) < 6) × (digit row (k + 2) < 6) ⌝ }
+    ensures { λ r. ⌜ r ≡ col3 (valueAt row k (now (values .entry))) (valueAt row (k + 1) (now (values .entry))) (valueAt row (k + 2) (now (values .entry))) ⌝ }
 {
-    ROWS[select][k]
-}
-
-fn entry(select: usize, k: usize, v: Five) -> f64
-    requires { ⌜ (select < 9) × (k < 9) ⌝ }
-    ensures { λ r. ⌜ r ≡ put (placed select k) (v .o) (v .a) (v .b) (v .c) (v .d) ⌝ }
-{
-    match place(select, k) {
-        b'o' => v.o,
-        b'a' => v.a,
-        b'b' => v.b,
-        b'c' => v.c,
-        b'd' => v.d,
-        _ => 0.0,
+    Col3 {
+        x: entry(row, k, values),
+        y: entry(row, k + 1, values),
+        z: entry(row, k + 2, values),
     }
 }
 
@@ -56,17 +48,6 @@ fn turn(neg: u16, i: u32, x: f64) -> f64
     ensures { λ r. ⌜ r ≡ turned neg i x ⌝ }
 {
     if bit16(neg, i) { -x } else { x }
-}
-
-fn column(select: usize, k: usize, v: Five) -> Col3
-    requires { ⌜ (select < 9) × (k < 7) ⌝ }
-    ensures { λ r. ⌜ r ≡ placedCol select k (v .o) (v .a) (v .b) (v .c) (v .d) ⌝ }
-{
-    Col3 {
-        x: entry(select, k, v),
-        y: entry(select, k + 1, v),
-        z: entry(select, k + 2, v),
-    }
 }
 
 pub fn pivot_mat(select: u16, neg: u16, a: f64, b: f64) -> Mat3
@@ -88,18 +69,19 @@ pub fn pivot_mat(select: u16, neg: u16, a: f64, b: f64) -> Mat3
             c2: zero,
         };
     }
-    let row = select as usize;
-    let v = Five {
-        o: turn(neg, 0, 1.0),
+    let row = ROWS[select as usize];
+    let values = [
+        0.0,
+        turn(neg, 0, 1.0),
         a,
         b,
-        c: turn(neg, 1, b),
-        d: turn(neg, 2, a),
-    };
+        turn(neg, 1, b),
+        turn(neg, 2, a),
+    ];
     Mat3 {
-        c0: column(row, 0, v),
-        c1: column(row, 3, v),
-        c2: column(row, 6, v),
+        c0: column(row, 0, &values),
+        c1: column(row, 3, &values),
+        c2: column(row, 6, &values),
     }
 }
 

@@ -17,12 +17,17 @@ use Rattle.util.proofs.All.{each-at}
 use Rattle.util.proofs.Each.{each-read}
 use Rattle.util.proofs.ReadsLaws.{not-both}
 use Rattle.util.proofs.ViewLaws.{map-at, view-length, view-there, word-part}
+use Rattle.util.proofs.BelowLaws.{Small}
 use Rattle.animation.proofs.RotationLaws.{reference-count}
+use Rattle.animation.proofs.FiniteLaws.{referred-small}
 use Rattle.matrix.specs.declared.Mat3.{Mat3}
+use Rattle.matrix.specs.Matrix.{f0, identity3}
+use Rattle.matrix.proofs.MagnitudeLaws.{Nine}
 use Rattle.rotation.specs.Rotation.{pivotMat, basisMat}
 use Rattle.curve.specs.declared.SampleList.{SampleList}
 use Rattle.curve.specs.declared.ScalarCurve.{ScalarCurve}
-use Rattle.curve.specs.Curve.{Curve, none}
+use Rattle.curve.specs.Curve.{Curve, none, mixMat}
+use Rattle.curve.proofs.MixLaws.{mix-mat-same}
 use Rattle.animation.specs.declared.Animation.{Animation as Known}
 use Rattle.animation.specs.declared.AxisCurves.{AxisCurves}
 use Rattle.animation.specs.declared.Tables.{Tables}
@@ -93,6 +98,12 @@ basis-there s p = rw (word-part 2 10 p 0 s (omega arith), word-part 2 10 p 2 s (
 module _ (t : Tables) (s : List ℕ) (l : SampleList) where
   abbrev matrices : List Mat3
   matrices = map (matrixFor t s) (references s l)
+
+  -- matrix k is the same when it is mixed with itself
+  pub matrix-same : (k : ℕ) → k < l .length → (r : Mat3) → r ≡ getD matrices k identity3 → mixMat r r f0 ≡ r
+  matrix-same k h r e =
+      let is : r ≡ matrixFor t s (getD (references s l) k 0) = e ∙ map-at (matrixFor t s) (references s l) k 0 identity3 (rw (reference-count s l) h) in
+      mix-mat-same r (subst (Nine Small) (sym is) (referred-small (t .pivot) (t .basis) _ _))
 
   -- reference k, as code reads it
   module _ (k : ℕ) (h : k < l .length) (x : ℕ) (e : x ≡ wordAt 2 s (l .place + 2 * k)) where

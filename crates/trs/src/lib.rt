@@ -13,12 +13,12 @@ use curve::SampleList;
 use curve::ScalarCurve;
 use curve::ScalarRecord;
 use curve::lerp_mat;
-use curve::locate;
 use curve::pair_at;
 use curve::record_list;
 use curve::record_pairs;
 use curve::record_scalar;
 use curve::sample_scalar;
+use curve::spot_of;
 use matrix::Col3;
 use matrix::Mat3;
 use matrix::Mat4;
@@ -196,14 +196,12 @@ fn sample_rotations(s: &[u8], t: Tables, l: SampleList, frame: u16) -> Mat3
     requires { ⌜ InsideReferences t (now s) l × (1 ≤ l .length) ⌝ }
     ensures { λ r. ⌜ r ≡ sampleAt mixMat identity3 (rotationCurve t (now (s .entry)) (RotationCurve.Samples l)) frame ⌝ }
 {
-    if frame <= l.start {
-        return rotation_value(s, t, l, 0);
-    }
-    if l.end - 1 <= frame {
-        return rotation_value(s, t, l, l.length as usize - 1);
-    }
-    let p = locate(l.start, l.end, frame, l.length as u64);
+    let p = spot_of(l, frame);
     let lo = rotation_value(s, t, l, p.lo as usize);
+    // as of numbers: mixed with itself, at +0, it would be the same
+    if p.lo == p.hi {
+        return lo;
+    }
     let hi = rotation_value(s, t, l, p.hi as usize);
     lerp_mat(lo, hi, p.g)
 }

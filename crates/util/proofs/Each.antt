@@ -74,26 +74,6 @@ module _ {A B : Type 0} (g : B → ℕ) (f : A → Reader B) (s : List ℕ) wher
     unfolding each run total
     all i m c h = rw (drop-of-length-le xs h, add-zero c) refl
 
--- ---- where nothing is counted
-
--- a reach is a tally whose count is 0
-abbrev tallied : Reach → Tally
-tallied (Reach.Whole m) = Whole m 0
-tallied (Reach.Refused n) = Refused n
-
-abbrev forget : Tally → Reach
-forget (Whole m c) = Reach.Whole m
-forget (Refused n) = Reach.Refused n
-
-module _ {A : Type 0} where
-  tallied-of : (o : Outcome A) (r : Reach) → r ≡ reachOf o → tallied r ≡ tallyOf (λ _. 0) o
-  tallied-of (accepted m a) r e = ap tallied e
-  tallied-of (refused n) r e = ap tallied e
-
-  forget-tally : (g : A → ℕ) (o : Outcome A) → forget (tallyOf g o) ≡ reachOf o
-  forget-tally g (accepted m a) = refl
-  forget-tally g (refused n) = refl
-
 -- ---- from what code answers back to the value
 
 module _ {A : Type 0} where
@@ -187,23 +167,6 @@ module _ {A B : Type 0} (f : A → Reader B) (s : List ℕ) (size : ℕ) (read :
 
       pub item-refused : (n : ℕ) → r ≡ Refused n → Refused n ≡ items-left i m c
       item-refused n w = sym (ended g f s items d i m c n (rw item-count h) (item-tally ∙ w))
-
-  -- what is left where only the reach is told
-  abbrev pub reach-left : ℕ → ℕ → Reach
-  reach-left i m = reachOf (run (each f (drop i items)) s m)
-
-  reach-is : (i m : ℕ) → forget (items-left (λ _. 0) i m 0) ≡ reach-left i m
-  reach-is i m = forget-tally _ (run (each f (drop i items)) s m)
-
-  pub reach-end : (i m : ℕ) → count ≤ i → Reach.Whole m ≡ reach-left i m
-  reach-end i m h = ap forget (items-end (λ _. 0) i m 0 h) ∙ reach-is i m
-
-  module _ (i m : ℕ) (h : i < count) (x : A) (e : x ≡ read (take size (drop (at + size * i) s))) (r : Reach) (q : r ≡ reachOf (run (f x) s m)) where
-    pub reach-whole : (j : ℕ) → r ≡ Reach.Whole j → reach-left (i + 1) j ≡ reach-left i m
-    reach-whole j w = sym (reach-is (i + 1) j) ∙ (ap forget (item-whole (λ _. 0) i m 0 h x e (tallied r) (tallied-of (run (f x) s m) r q) j 0 (ap tallied w)) ∙ reach-is i m)
-
-    pub reach-refused : (n : ℕ) → r ≡ Reach.Refused n → Reach.Refused n ≡ reach-left i m
-    reach-refused n w = ap forget (item-refused (λ _. 0) i m 0 h x e (tallied r) (tallied-of (run (f x) s m) r q) n (ap tallied w)) ∙ reach-is i m
 
   -- items that are accepted have each been read
   pub items-read : (m : ℕ) (ys : List B) → run (each f items) s 0 ≡ accepted m ys

@@ -1,19 +1,23 @@
 -- A number's value is exact, and lies between its format's least and greatest: one law for every format. Assumes nothing.
-use Prim.Native.Nat.{ℕ, suc, _+_, _-_, _*_, _%_, _^_, _≤_, _<_}
+use Prim.Native.Nat.{ℕ, zero, suc, _+_, _-_, _*_, _%_, _^_, _≤_, _<_}
 use mathlib.Core.Bool.{Bool, true, false, cond}
 use mathlib.Core.Path.{_≡_, refl, sym, ap, subst, _∙_}
-use native.Mathlib.Nat.{mod-lt, mod-eq-of-lt, mul-assoc, mul-le-mul-right, one-mul, div-one, sub-zero, lt-of-lt-of-le}
+use native.Mathlib.Nat.{not-suc-le-zero, mod-lt, mod-eq-of-lt, mul-assoc, mul-le-mul-right, one-mul, div-one, sub-zero, lt-of-lt-of-le}
 use native.Mathlib.Omega.{arith}
 use borrow.Author.Tests.{ltb-true, ltb-false, lt-ltb, le-ltb, lt-leb}
-use lib.Dec.{ltb, lit<}
-use lib.IntN.{ℤ, pos, negsuc}
+use lib.Dec.{T, ltb, lit<, le→leb, lt→ltb}
+use lib.IntN.{ℤ, pos, negsuc, _+ℤ_, _-ℤ_}
+use lib.Signed.{mag}
+use mir.Syntax.{w64}
+use mir.Val.{SFits, toZ, ofZ}
+use mir.ValLaws.{toZ-ofZ}
 use lib.Pow.{pow-pos, pow-add, pow-mono, shl-lt, shl-exact}
-use lib.Ieee.{Float, binary64, round, neg, div, minus, ofInt, le}
+use lib.Ieee.{Float, binary64, round, div, minus, ofInt, inFloat, le}
 use lib.Ieee.Bits.{is-true}
 use lib.Ieee.Back.{round-whole}
 use lib.Ieee.Exact.{HasValue, round-exact}
 use lib.Ieee.Order.{round-mono}
-use Rattle.util.proofs.RoundLaws.{neg-round, sign-round, apart, round-falls, quotient}
+use Rattle.util.proofs.RoundLaws.{sign-round, apart, round-falls, quotient}
 use Rattle.util.specs.Bits.{bits}
 use Rattle.util.specs.Fixed.{Fix, width, half, ratio, twos, integer, fixed, least, greatest, Exactly, InRange, Promises}
 
@@ -96,15 +100,52 @@ promises f =
 
 -- ---- what the code of each format does
 
--- from the sign bit's weight on: the float of the distance, negated
-pub upper : (sign v : ℕ) → sign ≤ v → v < sign + sign → neg (ofInt binary64 (pos (sign - (v - sign)))) ≡ ofInt binary64 (twos sign v)
-unfolding ofInt
-upper sign v h l =
-    neg-round binary64 false (sign - (v - sign)) 1
-    ∙ (ap (λ (n : ℕ). round binary64 true n 1) (distance sign v h l) ∙ simp (le-ltb v sign h, lt-leb (sign + sign) v l))
-  where
-    distance : (sign v : ℕ) → sign ≤ v → v < sign + sign → sign - (v - sign) ≡ suc (sign + sign - suc v)
-    distance sign v h l = omega arith
+-- a number below 2 ^ 33 is itself in a signed word of 64 bits
+plain : (n : ℕ) → n < 2 ^ 33 → toZ w64 n ≡ pos n
+plain n h = toZ-ofZ w64 (pos n) (record { sfits = omega arith })
+
+less : (v w : ℕ) → v < w → pos v -ℤ pos w ≡ minus v w
+less v zero h = absurd (not-suc-le-zero h)
+less v (suc w) h = simp (lt-ltb v (suc w) h, lt-leb (suc w) v h)
+
+-- a two's-complement number in a signed word of 64 bits
+module _ (sign v : ℕ) (s : sign < 2 ^ 32) (l : v < sign + sign) where
+  small-twos : mag (twos sign v) < 2 ^ 32
+  small-twos = side (ltb v sign) refl
+    where
+      side : (b : Bool) → ltb v sign ≡ b → mag (cond b (pos v) (minus v (sign + sign))) < 2 ^ 32
+      side true e = let h : v < sign = ltb-true v sign e in omega arith
+      side false e = let h : sign ≤ v = ltb-false v sign e in rw (lt-leb (sign + sign) v l) (omega arith)
+
+  twos-fits : SFits w64 (twos sign v)
+  twos-fits = record { sfits = omega (arith, small-twos) }
+
+  pub twos-back : toZ w64 (ofZ w64 (twos sign v)) ≡ twos sign v
+  twos-back = toZ-ofZ w64 (twos sign v) twos-fits
+
+  pub twos-in-float : T (inFloat binary64 (twos sign v))
+  twos-in-float = held (twos sign v) small-twos
+    where
+      held : (z : ℤ) → mag z < 2 ^ 32 → T (inFloat binary64 z)
+      held (pos n) h = unfold inFloat in le→leb n _ (omega arith)
+      held (negsuc n) h = unfold inFloat in lt→ltb n _ (omega arith)
+
+  -- below the sign bit's weight
+  pub lower : v < sign → toZ w64 v ≡ twos sign v
+  lower h = plain v (omega arith) ∙ simp (lt-ltb v sign h)
+
+  -- from it on: less twice the weight
+  pub double-fits : SFits w64 (toZ w64 sign +ℤ toZ w64 sign)
+  double-fits = rw (plain sign (omega arith)) (record { sfits = omega arith })
+
+  module _ (h : sign ≤ v) where
+    pub upper : toZ w64 v -ℤ toZ w64 (ofZ w64 (toZ w64 sign +ℤ toZ w64 sign)) ≡ twos sign v
+    upper =
+        rw (plain v (omega arith), plain sign (omega arith), plain (sign + sign) (omega arith))
+        (less v (sign + sign) l ∙ simp (le-ltb v sign h))
+
+    pub upper-fits : SFits w64 (toZ w64 v -ℤ toZ w64 (ofZ w64 (toZ w64 sign +ℤ toZ w64 sign)))
+    upper-fits = rw upper twos-fits
 
 -- 1 shifted left in a word of 32 bits
 power : (k : ℕ) → k < 32 → 1 * 2 ^ k % 2 ^ 32 ≡ 2 ^ k

@@ -4,6 +4,7 @@ pub mod Calls
 pub mod Each
 pub mod BitsLaws
 pub mod RoundLaws
+pub mod ExactLaws
 pub mod FixedLaws
 pub mod WithinLaws
 pub mod ViewLaws
@@ -11,6 +12,7 @@ pub mod All
 pub mod NumberLaws
 pub mod SumsLaws
 pub mod WritesLaws
+pub mod PiecesLaws
 pub mod ReadsLaws
 pub mod BelowLaws
 pub mod Fields

@@ -93,6 +93,10 @@ round-falls f a b c d B D h =
 
 -- ---- a quotient
 
+pub unlike-false : (s : Bool) → unlike s false ≡ s
+unlike-false true = refl
+unlike-false false = refl
+
 -- a whole number over another is one rounding
 pub quotient : (x y : Float) (s : Bool) (a b : ℕ) → HasValue x s a 1 → HasValue y false b 1 → 0 < b → div binary64 x y ≡ round binary64 s a b
 unfolding div
@@ -104,10 +108,6 @@ quotient (fin t m e) (fin false n d) s a b v w B =
   where
     not-zero : (n k : ℕ) → 0 < n * k → n ≡ 0 → ⊥
     not-zero n k h z = lt-irrefl 0 (subst (λ (x : ℕ). 0 < x) (ap (λ (x : ℕ). x * k) z ∙ zero-mul k) h)
-
-    unlike-false : (b : Bool) → unlike b false ≡ b
-    unlike-false true = refl
-    unlike-false false = refl
 
     cross : (x y p q a b : ℕ) → x * 1 ≡ a * p → y * 1 ≡ b * q → x * q * b ≡ a * (y * p)
     cross x y p q a b v w =

@@ -27,16 +27,24 @@ impl Limits {
     }
 }
 
-// The float of a two's-complement number v, whose sign bit weighs half.
+// What a two's-complement number v is worth, whose sign bit weighs half.
+fn signed_integer(v: u32, half: u32) -> i64
+    requires { ⌜ v < half + half ⌝ }
+    ensures { λ r. ⌜ r ≡ twos half v ⌝ }
+{
+    if v < half {
+        v as i64
+    } else {
+        v as i64 - (half as i64 + half as i64)
+    }
+}
+
+// .. and as a float.
 fn signed(v: u32, half: u32) -> f64
     requires { ⌜ v < half + half ⌝ }
     ensures { λ r. ⌜ r ≡ ofInt binary64 (twos half v) ⌝ }
 {
-    if v < half {
-        v as f64
-    } else {
-        -((half - (v - half)) as f64)
-    }
+    signed_integer(v, half) as f64
 }
 
 // The low bits of x as a two's-complement integer, divided by 2 to the fraction bits.

@@ -9,11 +9,11 @@ use lib.Seq.{sets}
 use Rattle.util.specs.View.{wordAt}
 use Rattle.util.specs.Reader.{Outcome, accepted, refused, Verdict, answered, denied, number}
 use Rattle.matrix.specs.declared.Mat3.{Mat3}
-use Rattle.matrix.specs.declared.Mat4.{Mat4}
 use Rattle.info_block.specs.Name.{Name}
 use Rattle.curve.specs.Curve.{Pair, Recorded, noCurve, always, listed}
 use Rattle.nitro.specs.Container.{EntryRecord}
 use Rattle.gltf.specs.Curve.{Span, noSpan, span, Resampled}
+use Rattle.pose.specs.Pose.{Posed}
 use Rattle.calls.specs.Calls.{Listed, Chosen}
 use Rattle.calls.specs.Material.{Material}
 use Rattle.pattern_section.specs.Written.{Lent}
@@ -67,11 +67,6 @@ twoFloats v = v .first ∷ v .second ∷ []
 abbrev pub nineFloats : Mat3 → List Float
 nineFloats m = m .c0 .x ∷ m .c0 .y ∷ m .c0 .z ∷ m .c1 .x ∷ m .c1 .y ∷ m .c1 .z ∷ m .c2 .x ∷ m .c2 .y ∷ m .c2 .z ∷ []
 
-abbrev pub sixteenFloats : Mat4 → List Float
-sixteenFloats m =
-    m .c0 .x ∷ m .c0 .y ∷ m .c0 .z ∷ m .c0 .w ∷ m .c1 .x ∷ m .c1 .y ∷ m .c1 .z ∷ m .c1 .w
-    ∷ m .c2 .x ∷ m .c2 .y ∷ m .c2 .z ∷ m .c2 .w ∷ m .c3 .x ∷ m .c3 .y ∷ m .c3 .z ∷ m .c3 .w ∷ []
-
 -- where a list stands, and how many items it has
 abbrev pub listedWords : Listed → List ℕ
 listedWords l = l .place ∷ l .length ∷ []
@@ -99,6 +94,10 @@ spanWords (span start end) frames = 1 ∷ start ∷ end ∷ frames ∷ []
 
 abbrev pub resampledWords : Resampled → List ℕ
 resampledWords r = spanWords (r .over) (r .frames)
+
+-- how many objects a pose or a clip has
+abbrev pub posedWords : Posed → List ℕ
+posedWords r = r .objects ∷ []
 
 -- whether an entry was found, and its index
 abbrev pub foundWords : Option ℕ → List ℕ

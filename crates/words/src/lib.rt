@@ -13,7 +13,9 @@ use gltf::Resampling;
 use info_block::name::NameAnswer;
 use material_animation::Shift;
 use matrix::Mat3;
+use matrix::put_floats;
 use nitro::entry::EntryCheck;
+use pose::Posing;
 use trs::CurveRecord;
 use trs::RotationAnswer;
 use trs::RotationRecord;
@@ -23,15 +25,17 @@ ghost use mathlib.Core.Path.{_≡_};
 ghost use mathlib.Core.List.{List, [], _∷_};
 ghost use lib.Ieee.{Float};
 ghost use lib.Seq.{sets};
+ghost use Rattle.matrix.specs.Matrix.{floatsOf};
 ghost use Rattle.curve.specs.Curve.{listed};
 ghost use Rattle.curve.specs.CurveCode.{listRecordMeans, recordMeans, pairMeans, pairRecordMeans, pairAnswerMeans};
 ghost use Rattle.info_block.specs.NameCode.{nameAnswerMeans};
 ghost use Rattle.trs.specs.TrsCode.{curveMeans, scaleMeans, rotationRecordMeans, rotationAnswerMeans};
 ghost use Rattle.nitro.specs.EntryCode.{checkMeans};
 ghost use Rattle.gltf.specs.CurveCode.{resamplingMeans};
+ghost use Rattle.pose.specs.PoseCode.{posingMeans};
 ghost use Rattle.calls.specs.AnswersCode.{listAnswerMeans, choiceAnswerMeans, matrixAnswerMeans, foundMeans, materialAnswerMeans};
 ghost use Rattle.writing.specs.WritingCode.{writingMeans};
-ghost use Rattle.words.specs.Words.{Writes, nameWords, checked, recordWords, curveWords, curveFloats, oneFloat, twoFloats, nineFloats, sixteenFloats, listedWords, chosenWords, shiftFloats, materialWords, resampledWords, countWords, foundWords};
+ghost use Rattle.words.specs.Words.{Writes, nameWords, checked, recordWords, curveWords, curveFloats, oneFloat, twoFloats, nineFloats, listedWords, chosenWords, shiftFloats, materialWords, resampledWords, countWords, posedWords, foundWords};
 
 // The words that a curve's record may take.
 pub const CURVE_WORDS: usize = 8;
@@ -224,27 +228,12 @@ pub fn put_rotation(c: RotationAnswer, out: &mut [u64; CURVE_WORDS], value: &mut
 
 // Sixteen floats, column by column.
 pub fn put_sixteen(a: MatrixAnswer, out: &mut [f64; 16]) -> u32
-    ensures { λ r. ⌜ Writes sixteenFloats (matrixAnswerMeans a) r (now (out .entry)) (now (out .exit)) ⌝ }
+    ensures { λ r. ⌜ Writes floatsOf (matrixAnswerMeans a) r (now (out .entry)) (now (out .exit)) ⌝ }
 {
     match a {
         MatrixAnswer::Refused(n) => n as u32,
         MatrixAnswer::Matrix(m) => {
-            out[0] = m.c0.x;
-            out[1] = m.c0.y;
-            out[2] = m.c0.z;
-            out[3] = m.c0.w;
-            out[4] = m.c1.x;
-            out[5] = m.c1.y;
-            out[6] = m.c1.z;
-            out[7] = m.c1.w;
-            out[8] = m.c2.x;
-            out[9] = m.c2.y;
-            out[10] = m.c2.z;
-            out[11] = m.c2.w;
-            out[12] = m.c3.x;
-            out[13] = m.c3.y;
-            out[14] = m.c3.z;
-            out[15] = m.c3.w;
+            put_floats(out, 0, m);
             0
         }
     }
@@ -340,6 +329,19 @@ pub fn put_resampling(a: Resampling, out: &mut [u64; 4]) -> u32
             out[1] = start_frame as u64;
             out[2] = end_frame as u64;
             out[3] = frames as u64;
+            0
+        }
+    }
+}
+
+// How many objects a pose or a clip has.
+pub fn put_objects(p: Posing, out: &mut [u64; 1]) -> u32
+    ensures { λ r. ⌜ ((slice : List Float) → Writes posedWords (posingMeans p slice) r (now (out .entry)) (now (out .exit))) ⌝ }
+{
+    match p {
+        Posing::Refused(n) => n as u32,
+        Posing::Objects(count) => {
+            out[0] = count as u64;
             0
         }
     }

@@ -3,7 +3,7 @@
 use compare::agree::{self, Agreed, Counts};
 use compare::lists::Lists;
 use compare::rng::Rng;
-use compare::{cuts, lists, materials, replay, sections, writes};
+use compare::{cuts, lists, materials, poses, replay, sections, writes};
 use std::io::Write;
 use std::panic::{catch_unwind, AssertUnwindSafe};
 
@@ -14,12 +14,17 @@ struct Run {
     /// Of what is written. It has numbers of its own, so that the sections stay the same.
     own: Rng,
     written: writes::Counts,
+    /// Of poses and clips, which have numbers of their own too.
+    posing: Rng,
+    posed: poses::Counts,
 }
 
 impl Run {
     /// One section; a mismatch ends the run.
     fn section(&mut self, what: &str, s: &[u8]) {
         let agreed = caught(|| agree::section(s, &mut self.rng, &mut self.counts));
+        self.held(what, s, agreed);
+        let agreed = caught(|| poses::section(s, &mut self.posing, &mut self.posed));
         self.held(what, s, agreed);
         if self.counts.sections % 20_000 == 0 {
             progress(&self.counts);
@@ -29,6 +34,13 @@ impl Run {
     fn cuts(&mut self, s: &[u8]) {
         let agreed = caught(|| cuts::every(s, &mut self.rng, &mut self.counts));
         self.held("cuts", s, agreed);
+        let agreed = caught(|| poses::cuts(s, &mut self.posing, &mut self.posed));
+        self.held("cuts", s, agreed);
+    }
+
+    fn longest_clip(&mut self, s: &[u8]) {
+        let agreed = caught(|| poses::longest(s, &mut self.posing, &mut self.posed));
+        self.held("longest clips", s, agreed);
     }
 
     /// Two sections together.
@@ -135,7 +147,15 @@ fn main() {
     }
     let seed = number(args.next(), 1) as u64;
     let sections = number(args.next(), 20_000);
-    let mut run = Run { seed, rng: Rng::new(seed), counts: Counts::default(), own: Rng::new(!seed), written: writes::Counts::default() };
+    let mut run = Run {
+        seed,
+        rng: Rng::new(seed),
+        counts: Counts::default(),
+        own: Rng::new(!seed),
+        written: writes::Counts::default(),
+        posing: Rng::new(seed ^ 1 << 63),
+        posed: poses::Counts::default(),
+    };
 
     // short ones: none, one and two bytes of every value, and three that begin a stamp
     run.section("short sections", &[]);
@@ -235,8 +255,12 @@ fn main() {
         }
     }
     // the longest lists there are
-    for s in [sections::walk_cycle(1, 4095), sections::scroll(1, 65535)] {
+    for s in [sections::walk_cycle(1, 4095), sections::scroll(1, 65535), sections::long_walk()] {
         run.section("longest lists", &s);
+    }
+    // the longest clips
+    for s in [motion::example::WALK, motion::example::SWAY, &sections::walk_cycle(2, 4095)] {
+        run.longest_clip(s);
     }
     // patterns to write: at the bounds of each test, half as many from the seed as sections, and entries that are read and written again
     for (lists, room) in lists::edges(&mut run.own) {
@@ -265,13 +289,16 @@ fn main() {
     );
     println!("sections and entries refused with each number: {}", by_number(&c.refused));
     println!("materials refused with each number: {}", by_number(&c.no_material));
+    let p = &run.posed;
+    println!("posed: {} poses and {} clips with {} matrices, {} cuts", p.poses, p.clips, p.matrices, p.cuts);
+    println!("poses and clips refused with each number: {}", by_number(&p.refused));
     let w = &run.written;
     println!(
         "written: {} patterns ({} accepted), {} of them entries that were read ({} too long), {} cuts; {} written sections compared as the others",
         w.lists, w.accepted, w.again, w.too_long, w.cuts, w.compared.sections
     );
     println!("patterns refused with each number: {}", by_number(&w.refused));
-    let missing = w.missing();
+    let missing = [p.missing(), w.missing()].concat();
     if !missing.is_empty() {
         println!("{}", missing.join("\n"));
         std::process::exit(1);

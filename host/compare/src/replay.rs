@@ -5,7 +5,8 @@
 //! list and its length, four bytes each; and then the sections. A material's two sections stand as one, with the length of the first in the place
 //! of an object or track and the entry of the second in that of an axis or channel. The lists of a pattern that is written stand as one too, textures,
 //! palettes, tracks and keys: the bytes of the textures in the place of an object or track, those of the palettes in that of an axis or channel, and
-//! those of the tracks in that of a place. An answer is a line: the number, then every word and every float's bits that the call was
+//! those of the tracks in that of a place. A clip has its first frame in the place of the frame, and how many frames there are in that of an object or
+//! track. An answer is a line: the number, then every word and every float's bits that the call was
 //! lent, as they stand afterwards, in sixteen hex digits, and every byte in two. Where the Rust's answer is one of the intended differences
 //! (9 to 12), document 01's number stands; the second number of a scale's value, which the Rust drops, is read from the bytes by the layout, and
 //! what is written is the second program's.
@@ -16,7 +17,8 @@ use crate::oracle::{self, Entry, Value};
 use crate::rng::Rng;
 use crate::sections;
 use crate::writes;
-use apicula::nitro::animation::Curve;
+use apicula::nitro::animation::{Animation, Curve};
+use std::collections::{HashMap, HashSet};
 
 /// The bytes of a call.
 const SIZE: usize = 33;
@@ -53,6 +55,8 @@ const CHECK: u8 = 16;
 const SCALE_VALUE: u8 = 17;
 const MATERIAL: u8 = 18;
 const WRITE: u8 = 19;
+const POSE: u8 = 20;
+const CLIP: u8 = 21;
 
 /// What stands in the words and floats before a call, and in the bytes. No answer is such a word or float.
 const FILL: u64 = 0x5555_5555_5555_5555;
@@ -103,6 +107,7 @@ impl Call {
             CHECK => (0, 0, 0),
             MATERIAL => (3, 2, 0),
             WRITE => (1, 0, 240),
+            POSE | CLIP => (1, 100, 0),
             _ => (2, 0, 0),
         };
         Lent { words: vec![FILL; words], floats: vec![FILL; floats], bytes: vec![BYTE; bytes] }
@@ -173,6 +178,23 @@ fn put_written(s: &[u8], call: &Call, lent: &mut Lent) -> Result<(), u32> {
     Ok(())
 }
 
+/// The poses of an animation at some frames, or a single one: each object in turn at each frame.
+fn put_poses(a: &Animation, call: &Call, lent: &mut Lent) -> Result<(), u32> {
+    let (first, frames) = (call.frame as usize, if call.code == POSE { 1 } else { call.index as usize });
+    if first + frames > 65_536 {
+        return Err(9);
+    }
+    let room = (call.room as usize).min(lent.floats.len());
+    if 16 * a.objects_curves.len() * frames > room {
+        return Err(11);
+    }
+    let at = |frame: usize| a.objects_curves.iter().map(move |curves| curves.sample_at(frame as u16));
+    let matrices: Vec<_> = (first..first + frames).flat_map(at).collect();
+    put(&mut lent.words, &[a.objects_curves.len() as u64]);
+    put(&mut lent.floats, &floats(matrices.iter().flat_map(|m| m.columns.iter().flatten())));
+    Ok(())
+}
+
 /// What the Rust answers, and leaves in what is lent.
 fn answer(s: &[u8], call: &Call, lent: &mut Lent) -> Result<(), u32> {
     if call.code == MATERIAL {
@@ -206,6 +228,7 @@ fn answer(s: &[u8], call: &Call, lent: &mut Lent) -> Result<(), u32> {
     match value {
         _ if call.code == CHECK => {}
         _ if call.code == RECORD => put_record(s, at, entry.name, &value, lent),
+        Value::Jnt(a) if call.code == POSE || call.code == CLIP => put_poses(&a, call, lent)?,
         Value::Jnt(a) => {
             let curves = a.objects_curves.into_iter().nth(index).ok_or(9u32)?;
             let lists = layout::object(s, at, index);
@@ -338,6 +361,51 @@ fn writing_calls() -> Vec<(Vec<u8>, Vec<Call>)> {
     found
 }
 
+/// Poses and clips of sections that have other calls already: of none to three objects, of more than there is room for, and refused.
+fn posing_calls(kept: &[(Vec<u8>, Vec<Call>)]) -> Vec<(Vec<u8>, Vec<Call>)> {
+    let pose = |frame, room| Call { code: POSE, frame, room, ..Call::default() };
+    let clip = |first, frames, room| Call { code: CLIP, index: frames, frame: first, room, ..Call::default() };
+    // of the sections whose first entry is of so many objects, one whose matrices at eight frames differ most
+    let moving = |objects: usize| {
+        let matrices = |s: &[u8]| match oracle::read(s).ok()?.into_iter().next()?.value {
+            Ok(Value::Jnt(a)) if a.objects_curves.len() == objects => {
+                let at = |frame| a.objects_curves.iter().map(move |o| floats(o.sample_at(frame).columns.iter().flatten()));
+                Some((0..8).flat_map(at).collect::<HashSet<_>>().len())
+            }
+            _ => None,
+        };
+        kept.iter().map(|(s, _)| s).max_by_key(|s| matrices(s)).unwrap().clone()
+    };
+    let with = |stamp: &[u8]| kept.iter().map(|(s, _)| s).find(|s| s.starts_with(stamp)).unwrap().clone();
+    let mut no_frames = motion::example::WALK.to_vec();
+    no_frames[52] = 0;
+    vec![
+        (moving(0), vec![pose(1, 0), clip(5, 60_000, 3), clip(65_535, 2, 100)]),
+        (
+            moving(1),
+            vec![
+                pose(1, 16),
+                pose(2, 15),
+                Call { entry: 7, ..pose(0, 100) },
+                clip(0, 6, 96),
+                clip(1, 6, 95),
+                clip(3, 0, 0),
+                clip(65_535, 1, 16),
+                clip(65_534, 2, 40),
+                clip(65_535, 2, 100),
+            ],
+        ),
+        (moving(2), vec![pose(0, 32), pose(1, 33), pose(2, 31), clip(0, 3, 96), clip(1, 3, 100), clip(1, 2, 63), clip(65_535, 65_535, 0)]),
+        (moving(3), vec![pose(0, 48), pose(2, 100), clip(1, 2, 96), clip(0, 3, 100)]),
+        (with(b"TEX0"), vec![pose(0, 100)]),
+        (with(b"SRT0"), vec![clip(0, 1, 100)]),
+        (b"JNT".to_vec(), vec![clip(65_535, 2, 0)]),
+        (no_frames, vec![pose(0, 100)]),
+        (sections::crowd(999), vec![pose(0, 100)]),
+        (sections::crowd(1000), vec![clip(65_535, 2, 0)]),
+    ]
+}
+
 /// The list and the answers: bytes and lines.
 pub fn stored(sections: usize) -> (Vec<u8>, String) {
     let rng = &mut Rng::new(86);
@@ -441,16 +509,23 @@ pub fn stored(sections: usize) -> (Vec<u8>, String) {
     }
     // patterns that are written
     kept.extend(writing_calls());
+    // poses and clips
+    kept.extend(posing_calls(&kept));
     let count: usize = kept.iter().map(|(_, calls)| calls.len()).sum();
-    let (mut list, mut behind, mut lines) = ((count as u16).to_le_bytes().to_vec(), Vec::new(), String::new());
+    let (mut list, mut behind, mut lines) = ((count as u16).to_le_bytes().to_vec(), Vec::<u8>::new(), String::new());
+    // where each section stands: none stands there twice
+    let mut places = HashMap::new();
     for (s, calls) in kept {
+        let place = *places.entry(s.clone()).or_insert(behind.len());
+        if place == behind.len() {
+            behind.extend(&s);
+        }
         for c in calls {
-            list.extend(c.bytes(2 + SIZE * count + behind.len(), s.len()));
+            list.extend(c.bytes(2 + SIZE * count + place, s.len()));
             let mut lent = c.lent();
             let number = answer(&s, &c, &mut lent).err().unwrap_or(0);
             lines += &lent.line(number);
         }
-        behind.extend(s);
     }
     list.extend(behind);
     (list, lines)

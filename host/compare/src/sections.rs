@@ -696,6 +696,41 @@ pub fn walk_cycle(objects: usize, frames: usize) -> Vec<u8> {
     section(b"JNT0", &[e], &mut Rng::new(1))
 }
 
+/// A longer walk cycle, of 60 objects and 300 frames, in under 65,536 bytes. Each object has a list of rotations of its own. The lists of numbers are
+/// shared: those of translations are eight for each axis, which serve in turn, and those of scales three.
+pub fn long_walk() -> Vec<u8> {
+    let rng = &mut Rng::new(7);
+    let (objects, frames) = (60, 300);
+    let fields = 20 + 2 * objects + 60 * objects;
+    let rotations = fields + 10 * 16 + 6 * 16;
+    let translations = rotations + objects * 2 * frames;
+    let scales = translations + 3 * 8 * 2 * frames;
+    let mut e = b"J\0AC".to_vec();
+    put16(&mut e, frames);
+    put16(&mut e, objects);
+    put32(&mut e, 0);
+    put32(&mut e, fields + 10 * 16);
+    put32(&mut e, fields);
+    (0..objects).for_each(|o| put16(&mut e, 20 + 2 * objects + 60 * o));
+    for o in 0..objects {
+        e.extend([0; 4]);
+        let moved = [0, 1, 2].map(|axis| translations + (3 * (o % 8) + axis) * 2 * frames);
+        let grown = [0, 1, 2].map(|axis| scales + (3 * (o % 3) + axis) * 4 * frames);
+        for list in [&moved[..], &[rotations + o * 2 * frames], &grown].concat() {
+            put32(&mut e, frames << 16 | 1 << 28);
+            put32(&mut e, list);
+        }
+    }
+    e.extend(rng.bytes(10 * 16));
+    for k in 0..16 {
+        put16(&mut e, k % 9);
+        e.extend(rng.bytes(4));
+    }
+    (0..objects * frames).for_each(|k| put16(&mut e, (k % 2) << 15 | k % 16));
+    e.extend(rng.bytes(3 * 8 * 2 * frames + 3 * 3 * 4 * frames));
+    section(b"JNT0", &[e], &mut Rng::new(1))
+}
+
 /// The name of a track of the two sections below.
 pub fn track_name(t: usize) -> [u8; 16] {
     let mut name = *b"material\0\0\0\0\0\0\0\0";
@@ -750,6 +785,71 @@ pub fn blink(tracks: usize, keys: usize) -> Vec<u8> {
         }
     }
     section(b"PAT0", &[e], &mut Rng::new(1))
+}
+
+// ---- sections of up to 65,536 bytes that take longest to list: 255 entries at one place, whose objects or tracks share their lists
+
+/// A section of 255 entries at one place.
+fn at_one_place(stamp: &[u8; 4], place: usize) -> Vec<u8> {
+    let mut s = [&stamp[..], &[0; 4]].concat();
+    info_block(&mut s, 4, &vec![(place as u32).to_le_bytes().to_vec(); 255], &[[0; 16]; 255]);
+    s
+}
+
+/// JNT0: 999 objects whose rotations are so many lists of 4,095 references in turn, to the basis and the pivot data in turn.
+pub fn crowded(lists: usize) -> Vec<u8> {
+    let (objects, references) = (999, 4095);
+    let mut s = at_one_place(b"JNT0", 6144);
+    s.extend(b"J\0AC");
+    put16(&mut s, 9);
+    put16(&mut s, objects);
+    s.extend([0; 12]);
+    let places = 20 + 2 * objects;
+    (0..objects).for_each(|o| put16(&mut s, places + 12 * (o % lists)));
+    for list in 0..lists {
+        // neither translation nor scale
+        put16(&mut s, 1 << 1 | 1 << 9);
+        put16(&mut s, 0);
+        put32(&mut s, references << 16);
+        put32(&mut s, places + 12 * lists + 2 * references * list);
+    }
+    (0..lists * references).for_each(|k| put16(&mut s, (k % 2) << 15));
+    s
+}
+
+/// PAT0: 255 tracks of the same keys, behind the entry's tracks, as many as there is room for: 13,056.
+pub fn keyed() -> Vec<u8> {
+    let mut s = at_one_place(b"PAT0", 6144);
+    let (keys, behind) = (13_056, 12 + 16 + 28 * 255);
+    s.extend([0, 0, 0, 0, 9, 0, 255, 255, 0, 0, 0, 0]);
+    info_block(&mut s, 8, &vec![track_of(keys, behind); 255], &[[0; 16]; 255]);
+    s.resize(65_536, 0);
+    s
+}
+
+/// The same with 16,127 keys: the entries' place is inside the section's own info block, so that the tracks stand in its names, and the keys begin
+/// with the eighth byte of the entry.
+pub fn keyed_over() -> Vec<u8> {
+    let (place, keys) = (1020, 16_127);
+    let mut s = at_one_place(b"PAT0", place);
+    // up to the words that nobody reads
+    s[place..place + 12].copy_from_slice(&[0, 0, 0, 0, 9, 0, 255, 255, 0, 0, 0, 0]);
+    s[place + 12..1040].copy_from_slice(&[0, 255, 0, 0, 0, 0, 0, 0]);
+    // from the names on
+    s.truncate(2064);
+    put32(&mut s, 8);
+    (0..255).for_each(|_| s.extend(track_of(keys, 8)));
+    s.resize(65_536, 0);
+    s
+}
+
+/// A track's datum: how many keys it has, and where they stand.
+fn track_of(keys: usize, place: usize) -> Vec<u8> {
+    let mut datum = Vec::new();
+    put32(&mut datum, keys);
+    put16(&mut datum, 0);
+    put16(&mut datum, place);
+    datum
 }
 
 #[test]

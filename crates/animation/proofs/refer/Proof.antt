@@ -1,47 +1,38 @@
 -- `animation::refer` meets its contract. Assumes nothing.
-use native.Mathlib.Omega.{arith}
-use Rattle.animation.proofs.RotationLaws.{end-small, refers, looked-end}
+use mathlib.Core.Bool.{true, false}
+use mathlib.Core.Path.{sym, ap, _∙_}
+use Rattle.animation.specs.Animation.{Referred}
+use Rattle.animation.proofs.RotationLaws.{refers}
 use borrow.Author.Needs.{needs}
 use Rattle.animation.proofs.refer.Statement.{statement}
 use Rattle.animation.proofs.refer.Tie as tie
 
-mul : tie.Need-mul-t16
-mul c =
-    let k = c .before .before in
-    let a = k .before .before .before .args in
-    let e = looked-end (a .t) (a .x) _ (k .bits16 .ensures) _ (c .before .bit16 .ensures) _ (c .bits162 .ensures) in
-    let h = end-small (a .t) (a .x) (omega arith) (omega arith) in
-    omega arith
-
-add : tie.Need-add-t17
-add c =
-    let k = c .before .before in
-    let a = k .before .before .before .args in
-    let e = looked-end (a .t) (a .x) _ (k .bits16 .ensures) _ (c .before .bit16 .ensures) _ (c .bits162 .ensures) in
-    let h = end-small (a .t) (a .x) (omega arith) (omega arith) in
-    omega arith
-
 returns : tie.Need-returns
 returns c =
-    let k = c .before .before in
-    let a = k .before .before .before .args in
-    refers (a .t) (a .x) _ (k .bits16 .ensures) _ (c .before .bit16 .ensures) _ (c .bits162 .ensures)
+    let k = c .before .before .before in
+    let a = k .before .args in
+    let e = refers (a .t) (a .x) true (sym (c .before .if1 .taken) ∙ c .before .before .bit16 .ensures) _ (k .bits16 .ensures) in
+    (sym e, ap (λ (r : Referred). r .size) (sym e))
+
+returns-2 : tie.Need-returns-2
+returns-2 c =
+    let k = c .before .before .before in
+    let a = k .before .args in
+    let e = refers (a .t) (a .x) false (sym (c .before .if1 .left) ∙ c .before .before .bit16 .ensures) _ (k .bits16 .ensures) in
+    (sym e, ap (λ (r : Referred). r .size) (sym e))
 
 pub refer-spec : {M : Type 1} → statement M
 refer-spec =
     tie.close
     (tie.spec
-    (λ c. search needs)
+    (λ c κs. search needs)
     (λ c. search needs)
     (λ c κs. search needs)
     (λ c. search needs)
     (λ c. search needs)
     (λ c. search needs)
-    (λ c κs. search needs)
     (λ c. search needs)
     (λ c. search needs)
-    (λ c κs. search needs)
     (λ c. search needs)
-    mul
-    add
-    returns)
+    returns
+    returns-2)
