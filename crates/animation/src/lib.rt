@@ -10,13 +10,14 @@ use util::cur::Cur;
 use util::cur::Reach;
 use util::cur::Tally;
 use util::cur::greater;
+use util::cur::greater16;
 use util::view::starts_with;
 use util::view::word16;
 use util::view::word32;
 ghost use mathlib.Core.Bool.{true, false};
 ghost use mathlib.Core.List.{List};
 ghost use mathlib.Core.Path.{_≡_};
-ghost use Prim.Native.Nat.{ℕ, _+_, _*_, max, _<_, _≤_};
+ghost use Prim.Native.Nat.{ℕ, _+_, _*_, _<_, _≤_};
 ghost use lib.Dec.{eqb};
 ghost use lib.ListN.{length, drop};
 ghost use Rattle.util.specs.Bits.{bits};
@@ -357,12 +358,6 @@ fn turn(x: u16) -> u16
     ensures { λ r. ⌜ r ≡ turnedOver x ⌝ }
 {
     x ^ 0x8000
-}
-
-fn greater16(a: u16, b: u16) -> u16
-    ensures { λ r. ⌜ r ≡ max a b ⌝ }
-{
-    if a < b { b } else { a }
 }
 
 // The greatest of the n references at `list`: no record that they lead to ends after the last of these. The loop has no branch and no way out, so

@@ -3,7 +3,6 @@ use Prim.Native.Nat.{ℕ, _+_, _*_, _≤_, _<_}
 use mathlib.Core.Bool.{Bool, true, false}
 use mathlib.Core.List.{List, _++_}
 use mathlib.Core.Path.{_≡_, refl, sym, ap, subst, _∙_}
-use native.Mathlib.Nat.{mul-one}
 use native.Mathlib.Omega.{arith}
 use borrow.Author.Tests.{lt-ltb, le-ltb, leb-true}
 use lib.Dec.{leb}
@@ -67,16 +66,16 @@ module _ (s : List ℕ) (i m : ℕ) (e : Entry jnt) (h : run (entryOf jnt i) s 0
           size = length-sets out 0 poses;
         }
 
-  clip-holds : (first frames : ℕ) (out : List Float) (b d : Bool) → leb (first + frames) frameBound ≡ b → leb (16 * (n * frames)) (length out) ≡ d
+  clip-holds : (first frames : ℕ) (out : List Float) (b d : Bool) → leb (16 * (n * frames)) (length out) ≡ d
       → (k : ℕ) (r : Posed) → run (tell (given b 9 (given d 11 (answered (record { objects = n; slice = sets out 0 (posesFrom objects first frames) }))))) s m ≡ accepted k r
       → HoldsMatrices s i first frames k out r
   unfolding run
-  clip-holds first frames out true true p q k r w =
+  clip-holds first frames out true true q k r w =
       let x : m ≡ k = cc in
       let y : record { objects = n; slice = sets out 0 (posesFrom objects first frames) } ≡ r = cc in
       subst (λ (j : ℕ). HoldsMatrices s i first frames j out r) x (subst (HoldsMatrices s i first frames m out) y (holds first frames out (leb-true _ _ q)))
-  clip-holds first frames out true false p q k r w = absurd (not-both w refl)
-  clip-holds first frames out false d p q k r w = absurd (not-both w refl)
+  clip-holds first frames out true false q k r w = absurd (not-both w refl)
+  clip-holds first frames out false d q k r w = absurd (not-both w refl)
 
   pose-holds : (frame : ℕ) (out : List Float) (d : Bool) → leb (16 * n) (length out) ≡ d
       → (k : ℕ) (r : Posed) → run (tell (given d 11 (answered (record { objects = n; slice = sets out 0 (poseAt objects frame) })))) s m ≡ accepted k r
@@ -96,7 +95,7 @@ clips-hold s i first frames out m r w = go (run (entryOf jnt i) s 0) refl
   where
     go : (x : Outcome (Entry jnt)) → run (entryOf jnt i) s 0 ≡ x → HoldsMatrices s i first frames m out r
     go (refused n) h = absurd (not-both w (stops _ _ _ _ n h))
-    go (accepted j e) h = clip-holds s i j e h first frames out _ _ refl refl m r (sym (entry-tells jnt s i (clip first frames out) j e h) ∙ w)
+    go (accepted j e) h = clip-holds s i j e h first frames out (leb (first + frames) frameBound) _ refl m r (sym (entry-tells jnt s i (clip first frames out) j e h) ∙ w)
 
 pub poses-hold : (s : List ℕ) → PosesHold s
 unfolding ask poseInto answer reader

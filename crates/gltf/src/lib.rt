@@ -4,10 +4,11 @@ use animation::TRSCurves;
 use animation::Triple;
 use curve::ScalarCurve;
 use trs::sample_axes;
+use util::cur::greater16;
 ghost use mathlib.Core.Path.{_≡_};
 ghost use mathlib.Core.Bool.{false};
 ghost use mathlib.Core.List.{List};
-ghost use Prim.Native.Nat.{ℕ, _-_, _*_, _/_, _<_, _≤_, min, max};
+ghost use Prim.Native.Nat.{ℕ, _-_, _*_, _/_, _<_, _≤_, min};
 ghost use lib.ListN.{length};
 ghost use lib.Seq.{sets};
 ghost use Rattle.curve.specs.CurveCode.{Inside, scalarCurve};
@@ -67,7 +68,7 @@ impl CurveDomain {
                     sampling_rate: r2,
                 } => CurveDomain::Sampled {
                     start_frame: least(s1, s2),
-                    end_frame: greatest(e1, e2),
+                    end_frame: greater16(e1, e2),
                     sampling_rate: least(r1, r2),
                 },
             },
@@ -99,12 +100,6 @@ fn least(a: u16, b: u16) -> u16
     ensures { λ r. ⌜ r ≡ min a b ⌝ }
 {
     if a < b { a } else { b }
-}
-
-fn greatest(a: u16, b: u16) -> u16
-    ensures { λ r. ⌜ r ≡ max a b ⌝ }
-{
-    if a < b { b } else { a }
 }
 
 // Whether a curve is a list without values.

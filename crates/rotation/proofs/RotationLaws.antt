@@ -15,8 +15,8 @@ use lib.Pow.{pow-pos}
 use Rattle.util.specs.Bits.{bits}
 use Rattle.matrix.specs.declared.Col3.{Col3}
 use Rattle.matrix.specs.Matrix.{f0, f1, col3}
-use Rattle.rotation.specs.RotationCode.{digit, valueAt}
-use Rattle.rotation.specs.Rotation.{Cell, Z, O, A, B, C, D, rows, index, placed, put, placedCol, turned, pivotMat, joined}
+use Rattle.rotation.specs.RotationCode.{index, digit, valueAt}
+use Rattle.rotation.specs.Rotation.{Cell, Z, O, A, B, C, D, rows, placed, put, placedCol, turned, pivotMat, joined}
 
 -- ---- the table
 

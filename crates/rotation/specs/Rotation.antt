@@ -31,15 +31,6 @@ rows =
     ∷ (A ∷ B ∷ Z ∷ C ∷ D ∷ Z ∷ Z ∷ Z ∷ O ∷ [])
     ∷ []
 
--- the index that a place has in the code's table
-abbrev pub index : Cell → ℕ
-index Z = 0
-index O = 1
-index A = 2
-index B = 3
-index C = 4
-index D = 5
-
 unfoldable pub placed : ℕ → ℕ → Cell
 placed select k = getD (getD rows select []) k Z
 

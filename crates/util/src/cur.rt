@@ -26,3 +26,10 @@ pub fn greater(a: usize, b: usize) -> usize
 {
     if a < b { b } else { a }
 }
+
+// The greater of two numbers of sixteen bits.
+pub fn greater16(a: u16, b: u16) -> u16
+    ensures { λ r. ⌜ r ≡ max a b ⌝ }
+{
+    if a < b { b } else { a }
+}

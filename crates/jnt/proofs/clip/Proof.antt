@@ -2,10 +2,8 @@
 use mathlib.Core.List.{List}
 use mathlib.Core.Path.{sym, ap, subst}
 use Prim.Native.Nat.{ℕ}
-use Rattle.util.specs.Reader.{Verdict}
 use Rattle.animation.specs.AnimationCode.{WholeAnimation}
-use Rattle.pose.specs.Pose.{posedSlice, Posed}
-use Rattle.pose.specs.PoseCode.{Poses}
+use Rattle.pose.specs.Pose.{posedSlice}
 use Rattle.nitro.specs.Container.{jnt}
 use Rattle.nitro.specs.EntryCode.{AnimationOpens}
 use Rattle.nitro.proofs.EntryLaws.{onward}

@@ -1,8 +1,6 @@
 -- `jnt::pose` meets its contract. Assumes nothing.
-use mathlib.Core.List.{List}
-use mathlib.Core.Path.{_≡_, subst}
+use mathlib.Core.Path.{subst}
 use native.Mathlib.Omega.{arith}
-use lib.Ieee.{Float}
 use Rattle.util.specs.Reader.{Verdict}
 use Rattle.pose.specs.Pose.{Posed}
 use Rattle.pose.specs.PoseCode.{Poses}

@@ -15,7 +15,7 @@ returns-2 : tie.Need-returns-2
 returns-2 c = union-one _ _ _ _ _ (ap domainMeans (c .before .before .before .self .given .1)) (ap domainMeans (c .enum-told2 .given .1))
 
 returns-3 : tie.Need-returns-3
-returns-3 c = let o = c .before .before .before .before in union-two _ _ _ _ _ _ _ _ _ _ _ (ap domainMeans (o .before .before .before .self .given .1)) (ap domainMeans (o .other .given .1)) (c .before .before .least .ensures) (c .before .greatest .ensures) (c .least2 .ensures)
+returns-3 c = let o = c .before .before .before .before in union-two _ _ _ _ _ _ _ _ _ _ _ (ap domainMeans (o .before .before .before .self .given .1)) (ap domainMeans (o .other .given .1)) (c .before .before .least .ensures) (c .before .greater16 .ensures) (c .least2 .ensures)
 
 pub union-spec : {M : Type 1} → statement M
 union-spec =
