@@ -20,35 +20,35 @@ use util::view::{starts_with, word16, word32};
 const MOST_OBJECTS: usize = 999;
 
 // One of an object's two triples of curves.
-#[derive(Drop)]
+#[derive(Clone, Copy)]
 pub enum Triple {
     Translation,
     Scale,
 }
 
 // Where the pivot and the basis data stand.
-#[derive(Drop)]
+#[derive(Clone, Copy)]
 pub struct Tables {
     pub pivot: u32,
     pub basis: u32,
 }
 
 // A constant rotation is the reference to its matrix.
-#[derive(Drop)]
+#[derive(Clone, Copy)]
 pub enum RotationCurve {
     None,
     Constant(u16),
     Samples(SampleList),
 }
 
-#[derive(Drop)]
+#[derive(Clone, Copy)]
 pub struct AxisCurves {
     pub x: ScalarCurve,
     pub y: ScalarCurve,
     pub z: ScalarCurve,
 }
 
-#[derive(Drop)]
+#[derive(Clone, Copy)]
 pub struct TRSCurves {
     pub trans: AxisCurves,
     pub rotation: RotationCurve,
@@ -56,27 +56,27 @@ pub struct TRSCurves {
 }
 
 // The curve word and the offset of a list, and the reach after them.
-#[derive(Drop)]
+#[derive(Clone, Copy)]
 pub enum FieldsRead {
     Whole(u32, u32, usize),
     Refused(u8),
 }
 
 // A curve, and where reading stands after it.
-#[derive(Drop)]
+#[derive(Clone, Copy)]
 pub enum ScalarRead {
     Whole(ScalarCurve, Cur),
     Refused(u8),
 }
 
 // The curves of three axes, where reading stands after them, and how many values their lists have.
-#[derive(Drop)]
+#[derive(Clone, Copy)]
 pub enum AxesRead {
     Whole(AxisCurves, Cur, u32),
     Refused(u8),
 }
 
-#[derive(Drop)]
+#[derive(Clone, Copy)]
 pub enum RotationRead {
     Whole(RotationCurve, Cur),
     Refused(u8),
@@ -84,7 +84,7 @@ pub enum RotationRead {
 
 // How far an object reaches, its curves, and how many values their lists have: where it is refused, none. Curves inside an enum would be copied
 // out of it at every use, and so they would if their values were counted after they have been put together.
-#[derive(Drop)]
+#[derive(Clone, Copy)]
 pub struct ObjectRead {
     pub reach: Reach,
     pub samples: u64,
@@ -92,7 +92,7 @@ pub struct ObjectRead {
 }
 
 // What is known of a whole entry: its frames, its objects, its tables, its reach, and how many values its lists have.
-#[derive(Drop)]
+#[derive(Clone, Copy)]
 pub struct Animation {
     pub frames: u16,
     pub objects: usize,
@@ -101,7 +101,7 @@ pub struct Animation {
     pub samples: u64,
 }
 
-#[derive(Drop)]
+#[derive(Clone, Copy)]
 pub enum AnimationRead {
     Whole(Animation),
     Refused(u8),
@@ -292,7 +292,7 @@ fn read_axes(s: &[u8], which: Triple, flags: u16, at: Cur) -> AxesRead
 }
 
 // What a u16 refers to: a record of the pivot or of the basis data, where it stands, and its bytes.
-#[derive(Drop)]
+#[derive(Clone, Copy)]
 pub struct Referred {
     pub pivot: bool,
     pub place: usize,
@@ -346,7 +346,7 @@ fn follow(s: &[u8], t: Tables, x: u16, reach: usize) -> Reach
 
 // The greatest of some references, and the greatest of them with bit 15 turned: by the first the last record of the pivot data is known that
 // they lead to, by the second that of the basis data.
-#[derive(Drop)]
+#[derive(Clone, Copy)]
 struct Greatest {
     plain: u16,
     turned: u16,

@@ -5,31 +5,31 @@ use matrix::Mat4;
 use pattern::{PaletteIdx, TextureIdx};
 
 // Where a list stands, and how many items it has.
-#[derive(Drop)]
+#[derive(Clone, Copy)]
 pub struct ListPlace {
     pub place: usize,
     pub length: usize,
 }
 
-#[derive(Drop)]
+#[derive(Clone, Copy)]
 pub enum ListAnswer {
     List(ListPlace),
     Refused(u8),
 }
 
-#[derive(Drop)]
+#[derive(Clone, Copy)]
 pub enum ChoiceAnswer {
     Chosen(TextureIdx, PaletteIdx),
     Refused(u8),
 }
 
-#[derive(Drop)]
+#[derive(Clone, Copy)]
 pub enum MatrixAnswer {
     Matrix(Mat4),
     Refused(u8),
 }
 
-#[derive(Drop)]
+#[derive(Clone, Copy)]
 pub enum Found {
     At(usize),
     Nothing,
@@ -37,7 +37,7 @@ pub enum Found {
 }
 
 // A material: the shift of its texture, and its texture and palette if a pattern chooses them.
-#[derive(Drop)]
+#[derive(Clone, Copy)]
 pub enum MaterialAnswer {
     Shifted(Shift),
     Chosen(Shift, TextureIdx, PaletteIdx),

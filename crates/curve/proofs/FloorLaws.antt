@@ -26,6 +26,8 @@ size_of zero t = t
 size_of (suc x) t = (2 ^ 52 + t) * 2 ^ x
 
 same_sign : (v : Float) (s : Bool) (a c n : ℕ) → HasValue v s a c → Under v n → s ≡ false
+same_sign nan s a c n h u = elim h [ ]
+same_sign (inf _) s a c n h u = elim h [ ]
 same_sign (fin t m e) s a c n h u = sym h.0 ∙ u.0
 
 of_fields_lem : (s : Bool) (e t n : ℕ) → Under (of_fields binary64 s e t) n → HasValue (of_fields binary64 s e t) s (size_of e t) (2 ^ 1074)
@@ -43,13 +45,19 @@ of_fields_lem s (suc x) t n u = go (eqb (suc x) 2047) (eqb t 0) u
     go false b v = odd_sign 53 s (2 ^ 52 + t) x 1074
 
 value_of : (v : Float) (s : Bool) (a c : ℕ) → HasValue v s a c → num v * c ≡ a * den v
+value_of nan s a c h = elim h [ ]
+value_of (inf _) s a c h = elim h [ ]
 value_of (fin t m e) s a c h = h.1
 
 bound_of : (v : Float) (n : ℕ) → Under v n → num v < n * den v
+bound_of nan n u = elim u [ ]
+bound_of (inf _) n u = elim u [ ]
 bound_of (fin t m e) n u = u.1
 
 pub no_nan : (v : Float) (n : ℕ) → Under v n → T (not (is_nan v))
 unfolding is_nan
+no_nan nan n u = elim u [ ]
+no_nan (inf _) n u = elim u [ ]
 no_nan (fin t m e) n u = tt
 
 not_set : (b : ℕ) → leb (2 ^ 63) b ≡ false → b < 2 ^ 63

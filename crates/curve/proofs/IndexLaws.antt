@@ -8,7 +8,7 @@ use native.Mathlib.Omega.{arith}
 use lib.Dec.{T, eqb, le→leb, lit≤, lit<}
 use lib.IntN.{pos}
 use borrow.Author.Tests.{eqb-true, eqb-false}
-use lib.Ieee.{Float, fin, binary64, up, down, round, sub, mul, div, of_int, fits, in_float}
+use lib.Ieee.{Float, fin, binary64, up, down, round, sub, mul, div, of_int, fits, in_float, nan, inf}
 use lib.Ieee.Fits.{down_pos, mul-fits}
 use lib.Ieee.Exact.{HasValue}
 use lib.Ieee.Back.{round_whole}
@@ -30,6 +30,10 @@ exact {n} h = le→leb n (2 ^ 53) h
 -- ---- the product of such values
 prod : (x y : Float) (m n : ℕ) → Upto x m → HasValue y false n 1 → mul binary64 x y ≡ round binary64 false (num x * n) (den x)
 unfolding mul
+prod nan y m n u w = elim u [ ]
+prod (inf _) y m n u w = elim u [ ]
+prod (fin false k e) nan m n u w = elim w [ ]
+prod (fin false k e) (inf _) m n u w = elim w [ ]
 prod (fin true k e) y m n u w = absurd (true≢false u.0)
 prod (fin false k e) (fin true l d) m n u w = absurd (true≢false w.0)
 prod (fin false k e) (fin false l d) m n u w =
@@ -40,6 +44,8 @@ prod (fin false k e) (fin false l d) m n u w =
     swap x y p q n w = let w' : y ≡ n * q = sym (mul-one y) ∙ w in rw w' (simp (mul_assoc, mul_comm, mul_left_comm))
 
 upto_cross : (x : Float) (n : ℕ) → Upto x n → num x ≤ n * den x
+upto_cross nan n u = elim u [ ]
+upto_cross (inf _) n u = elim u [ ]
 upto_cross (fin s m e) n u = u.1
 
 -- fl (fl (a / b) * m) is at most m, for a ≤ b
@@ -61,6 +67,8 @@ index_held start end frame n = mul-fits binary64 _ _
 
 -- ---- its whole parts
 pub under_of : (x : Float) (n k : ℕ) → n < k → Upto x n → Under x k
+under_of nan n k h u = elim u [ ]
+under_of (inf _) n k h u = elim u [ ]
 under_of (fin s m e) n k h u = (u.0, lt_of_le_of_lt u.1 (mul-lt-mul_of_pos_right h (down_pos e)))
 
 pub floor-le : (x : Float) (n : ℕ) → Upto x n → floor x ≤ n
@@ -100,6 +108,8 @@ pub no_rest : (x : Float) (n : ℕ) → n ≤ 2 ^ 53 → Upto x n → floor x �
 no_rest x n N u h = same_less x (of_whole (floor x)) (floor x) (value x u (all_whole x h)) (unfold of_int in round_whole binary64 false (floor x) (le_trans (floor-le x n u) N))
   where
     value : (x : Float) → Upto x n → num x ≡ floor x * den x → HasValue x false (floor x) 1
+    value nan u h = elim u [ ]
+    value (inf _) u h = elim u [ ]
     value (fin s m e) u h = (u.0, mul-one (m * up e) ∙ h)
 
 -- ---- at a frame between start and end - 1

@@ -3,7 +3,7 @@ use Prim.Native.Nat.{ℕ, ◌^◌, ◌≤◌}
 use mathlib.Core.List.{List}
 use mathlib.Core.Path.{◌≡◌, refl, ap, ◌∙◌}
 use lib.Dec.{T, lit≤}
-use lib.Ieee.{Float, fin, binary64, add, sub, mul, fits}
+use lib.Ieee.{Float, fin, binary64, add, sub, mul, fits, nan, inf}
 use Rattle.util.specs.Fixed.{width}
 use Rattle.util.specs.Within.{Within}
 use Rattle.util.proofs.BelowLaws.{Small}
@@ -26,6 +26,8 @@ mix_same x h = unfold mix in ap (λ (y : Float). add binary64 (mul binary64 x y)
     one = unfold sub in refl
 
     go : (x : Float) → T (fits binary64 x) → Within x (2 ^ 65) → add binary64 (mul binary64 x f1) (mul binary64 x f0) ≡ x
+    go nan h w = elim w [ ]
+    go (inf _) h w = elim w [ ]
     go (fin s m e) h w = rw (times_one s m e h, times_zero s m e) (plus_zero s m e h)
 
 -- a stored number

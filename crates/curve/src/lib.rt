@@ -1,4 +1,6 @@
 // Curves as they stand in a section, and a curve's value between two of its values.
+#![tactic(auto)]
+
 ghost use Rattle.std.specs.Prelude.{List, ◌≡◌, ℕ, ◌+◌, ◌*◌, ◌^◌, ◌<◌, ◌≤◌, Float, length, drop};
 ghost use Rattle.util.specs.Fixed.{fix1_19_12};
 ghost use Rattle.util.specs.Within.{Under};
@@ -11,7 +13,7 @@ use util::fixed::{Fix1_3_12, Fix1_10_5, Fix1_19_12};
 use util::view::{word16, word32};
 
 // How the numbers of a value are stored.
-#[derive(Drop)]
+#[derive(Clone, Copy)]
 pub enum Number {
     Fix1_19_12,
     Fix1_3_12,
@@ -19,7 +21,7 @@ pub enum Number {
 }
 
 // A list of values: its frames, where it stands, how many values it has, the bytes of each, and the stored rate.
-#[derive(Drop)]
+#[derive(Clone, Copy)]
 pub struct SampleList {
     pub place: usize,
     pub length: u16,
@@ -30,14 +32,14 @@ pub struct SampleList {
 }
 
 // The record of a list: there its place counts from the section's start. The rest is the frames that the rate leaves over.
-#[derive(Drop)]
+#[derive(Clone, Copy)]
 pub struct ListRecord {
     pub list: SampleList,
     pub rest: u16,
 }
 
 // A constant is where its value stands.
-#[derive(Drop)]
+#[derive(Clone, Copy)]
 pub enum ScalarCurve {
     None,
     Constant(usize),
@@ -45,7 +47,7 @@ pub enum ScalarCurve {
 }
 
 // The record of a curve.
-#[derive(Drop)]
+#[derive(Clone, Copy)]
 pub enum ScalarRecord {
     None,
     Constant(f64),
@@ -53,21 +55,21 @@ pub enum ScalarRecord {
 }
 
 // One value of a scale. The first number is the one that is sampled.
-#[derive(Drop)]
+#[derive(Clone, Copy)]
 pub struct Pair {
     pub first: f64,
     pub second: f64,
 }
 
 // The record of a curve of pairs.
-#[derive(Drop)]
+#[derive(Clone, Copy)]
 pub enum PairRecord {
     None,
     Constant(Pair),
     List(ListRecord),
 }
 
-#[derive(Drop)]
+#[derive(Clone, Copy)]
 pub enum PairAnswer {
     Value(Pair),
     Refused(u8),
@@ -107,7 +109,7 @@ fn ceil(x: f64) -> u64
 }
 
 // The values next to a frame, and how far it is from the first of them.
-#[derive(Drop)]
+#[derive(Clone, Copy)]
 pub struct Spot {
     pub lo: u64,
     pub hi: u64,

@@ -13,7 +13,7 @@ use curve::ScalarCurve;
 use trs::sample_axes;
 use util::cur::greater16;
 
-#[derive(Drop)]
+#[derive(Clone, Copy)]
 pub enum CurveDomain {
     None,
     Sampled {
@@ -187,7 +187,7 @@ fn resample_vec3(s: &[u8], a: AxisCurves, default: f64, d: CurveDomain, out: &mu
 }
 
 // What was resampled: from which frame to which, and how many frames were written. Three missing curves have none.
-#[derive(Drop)]
+#[derive(Clone, Copy)]
 pub enum Resampling {
     Frames {
         start_frame: u16,

@@ -1,4 +1,6 @@
 // The info block: a list of datums, each with a name.
+#![tactic(auto)]
+
 pub mod name;
 
 ghost use mathlib.Core.List.{flatten};
@@ -10,7 +12,7 @@ ghost use Rattle.info_block.specs.InfoBlockCode.{BlockReads};
 use util::view::{byte, put_word, word16};
 
 // Where the datums and the names stand, how many there are, and where the block ends.
-#[derive(Drop)]
+#[derive(Clone, Copy)]
 pub struct InfoBlock {
     pub count: usize,
     pub datums: usize,
@@ -18,7 +20,7 @@ pub struct InfoBlock {
     pub end: usize,
 }
 
-#[derive(Drop)]
+#[derive(Clone, Copy)]
 pub enum BlockRead {
     Whole(InfoBlock),
     Refused(u8),

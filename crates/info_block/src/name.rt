@@ -8,13 +8,13 @@ use crate::InfoBlock;
 use util::view::word64;
 
 // A name's sixteen bytes: the first eight and the last eight, as little-endian words.
-#[derive(Drop)]
+#[derive(Clone, Copy)]
 pub struct Name {
     pub lo: u64,
     pub hi: u64,
 }
 
-#[derive(Drop)]
+#[derive(Clone, Copy)]
 pub enum NameAnswer {
     Name(Name),
     Refused(u8),
@@ -63,7 +63,7 @@ fn same_name(s: &[u8], p: usize, name: &[u8; 16]) -> bool
     true
 }
 
-#[derive(Drop)]
+#[derive(Clone, Copy)]
 pub enum NameFound {
     At(usize),
     Nothing,

@@ -6,7 +6,7 @@ use nitro::entry::{AnimationOpen, open_animation};
 
 // An entry that is whole and has the object: where it stands, and what is known of it. The object's curves are read where they are used:
 // they are large, and handing them on copies them.
-#[derive(Drop)]
+#[derive(Clone, Copy)]
 pub enum ObjectOpen {
     At(usize, Animation),
     Refused(u8),

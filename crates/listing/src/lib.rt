@@ -67,7 +67,7 @@ fn put_entry(
 }
 
 // How many entries were accepted and refused, and how many samples the accepted ones have.
-#[derive(Drop)]
+#[derive(Clone, Copy)]
 struct Totals {
     accepted: usize,
     refused: usize,

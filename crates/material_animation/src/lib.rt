@@ -17,7 +17,7 @@ use util::cur::{Tally, greater};
 use util::view::{byte, word16, word32};
 
 // What is known of a whole entry: its frames, its tracks, its reach, and how many values its lists have.
-#[derive(Drop)]
+#[derive(Clone, Copy)]
 pub struct MaterialAnimation {
     pub frames: u16,
     pub block: InfoBlock,
@@ -25,14 +25,14 @@ pub struct MaterialAnimation {
     pub samples: u64,
 }
 
-#[derive(Drop)]
+#[derive(Clone, Copy)]
 pub enum MatAnimRead {
     Whole(MaterialAnimation),
     Refused(u8),
 }
 
 // A channel's curve, and the reach after it.
-#[derive(Drop)]
+#[derive(Clone, Copy)]
 pub enum ChannelRead {
     Whole(ScalarCurve, usize),
     Refused(u8),
@@ -144,7 +144,7 @@ fn sample_channel(s: &[u8], track: usize, n: usize, frame: u16) -> f64
 }
 
 // How far a texture is shifted.
-#[derive(Drop)]
+#[derive(Clone, Copy)]
 pub struct Shift {
     pub u: f64,
     pub v: f64,
@@ -172,7 +172,7 @@ pub fn eval_uv_mat(s: &[u8], track: usize, frame: u16) -> Mat4
 }
 
 // The shift of a name at a frame, or nothing if no track has that name.
-#[derive(Drop)]
+#[derive(Clone, Copy)]
 pub enum ShiftFound {
     At(Shift),
     Nothing,

@@ -5,7 +5,7 @@ use mathlib.Core.List.{List, [], ◌∷◌, ◌++◌}
 use mathlib.Core.Path.{◌≡◌, refl, ap, ◌∙◌}
 use native.Mathlib.Omega.{arith}
 use lib.Dec.{T}
-use lib.Ieee.{Float, fin, is_nan}
+use lib.Ieee.{Float, fin, is_nan, nan, inf}
 use lib.ListN.{length, set}
 use lib.Seq.{sets}
 use Rattle.util.proofs.WritesLaws.{sets_after}
@@ -13,6 +13,8 @@ use Rattle.matrix.specs.Finite.{Finite}
 
 pub finite_no_nan : (x : Float) → Finite x → T (not (is_nan x))
 unfolding is_nan
+finite_no_nan nan h = elim h [ ]
+finite_no_nan (inf _) h = elim h [ ]
 finite_no_nan (fin s m e) h = tt
 
 module _ {A : Type 0} where

@@ -1,7 +1,7 @@
 -- How large the entries of a product are, and that they are numbers. Assumes nothing.
 use Prim.Native.Nat.{ℕ, ◌+◌, ◌^◌, ◌≤◌}
 use native.Mathlib.Omega.{arith}
-use lib.Ieee.{Float, fin, binary64, mul}
+use lib.Ieee.{Float, fin, binary64, mul, nan, inf}
 use Rattle.util.specs.Within.{Within}
 use Rattle.util.proofs.BelowLaws.{Below, below_zero, below_one, below_le, below_add, below_mul}
 use Rattle.matrix.specs.declared.Col3.{Col3}
@@ -15,6 +15,8 @@ pub below_finite : {k : ℕ} {x : Float} → Below k x → Finite x
 below_finite {k} {x} h = go x h.within
   where
     go : (x : Float) → Within x (2 ^ k) → Finite x
+    go nan h = elim h [ ]
+    go (inf _) h = elim h [ ]
     go (fin s m e) h = tt
 
 -- P of each entry: of a column of three and of four, of a matrix of nine and of sixteen

@@ -1,4 +1,6 @@
 // Matrices as columns of floats, by value. They stand in for cgmath's.
+#![tactic(auto)]
+
 ghost use Rattle.std.specs.Prelude.{◌≡◌, ◌+◌, ◌≤◌, length};
 ghost use Rattle.std.proofs.lemmas.List.Edits.{sets};
 ghost use Rattle.matrix.specs.Finite.{FiniteCol, FiniteMat};
@@ -6,21 +8,21 @@ ghost use Rattle.matrix.specs.Matrix as spec;
 
 use util::view::put64;
 
-#[derive(Drop)]
+#[derive(Clone, Copy)]
 pub struct Col3 {
     pub x: f64,
     pub y: f64,
     pub z: f64,
 }
 
-#[derive(Drop)]
+#[derive(Clone, Copy)]
 pub struct Mat3 {
     pub c0: Col3,
     pub c1: Col3,
     pub c2: Col3,
 }
 
-#[derive(Drop)]
+#[derive(Clone, Copy)]
 pub struct Col4 {
     pub x: f64,
     pub y: f64,
@@ -28,7 +30,7 @@ pub struct Col4 {
     pub w: f64,
 }
 
-#[derive(Drop)]
+#[derive(Clone, Copy)]
 pub struct Mat4 {
     pub c0: Col4,
     pub c1: Col4,

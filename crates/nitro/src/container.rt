@@ -7,14 +7,14 @@ ghost use Rattle.nitro.specs.ContainerCode.{stamp_means, HeaderReads, EntryReads
 use info_block::{BlockRead, InfoBlock};
 use util::view::{starts_with, word32};
 
-#[derive(Drop)]
+#[derive(Clone, Copy)]
 pub enum Kind {
     Jnt,
     Srt,
     Pat,
 }
 
-#[derive(Drop)]
+#[derive(Clone, Copy)]
 pub enum StampRead {
     Whole(Kind),
     Refused(u8),
@@ -51,14 +51,14 @@ pub fn read_section(s: &[u8]) -> BlockRead
 }
 
 // Where an entry stands, where its name does, and where the section's info block ends.
-#[derive(Drop)]
+#[derive(Clone, Copy)]
 pub struct EntryAt {
     pub offset: u32,
     pub name: usize,
     pub end: usize,
 }
 
-#[derive(Drop)]
+#[derive(Clone, Copy)]
 pub enum EntryFound {
     At(EntryAt),
     Refused(u8),

@@ -14,7 +14,7 @@ use util::cur::greater;
 
 // What the check finds of a whole entry: its record and its reach. `count` is how many objects or tracks it has, `samples` how long its lists
 // are together.
-#[derive(Drop)]
+#[derive(Clone, Copy)]
 pub struct Checked {
     pub name: Name,
     pub reach: usize,
@@ -23,14 +23,14 @@ pub struct Checked {
     pub samples: u64,
 }
 
-#[derive(Drop)]
+#[derive(Clone, Copy)]
 pub enum EntryCheck {
     Whole(Checked),
     Refused(u8),
 }
 
 // What an entry holds, counted from the entry.
-#[derive(Drop)]
+#[derive(Clone, Copy)]
 pub struct Held {
     pub frames: u16,
     pub count: usize,
@@ -38,7 +38,7 @@ pub struct Held {
     pub reach: usize,
 }
 
-#[derive(Drop)]
+#[derive(Clone, Copy)]
 pub enum ValueRead {
     Whole(Held),
     Refused(u8),
@@ -180,19 +180,19 @@ fn open_stamped(s: &[u8], kind: Kind, i: usize) -> EntryFound
 }
 
 // An entry that is whole: where it stands, and what is known of it.
-#[derive(Drop)]
+#[derive(Clone, Copy)]
 pub enum AnimationOpen {
     At(EntryAt, Animation),
     Refused(u8),
 }
 
-#[derive(Drop)]
+#[derive(Clone, Copy)]
 pub enum MaterialOpen {
     At(EntryAt, MaterialAnimation),
     Refused(u8),
 }
 
-#[derive(Drop)]
+#[derive(Clone, Copy)]
 pub enum PatternOpen {
     At(EntryAt, Pattern),
     Refused(u8),

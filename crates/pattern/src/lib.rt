@@ -14,14 +14,14 @@ use util::cur::{Tally, greater};
 use util::view::{byte, word16, word32};
 
 // An index of the texture names.
-#[derive(Drop)]
+#[derive(Clone, Copy)]
 pub struct TextureIdx(pub u8);
 
 // An index of the palette names.
-#[derive(Drop)]
+#[derive(Clone, Copy)]
 pub struct PaletteIdx(pub u8);
 
-#[derive(Drop)]
+#[derive(Clone, Copy)]
 pub struct PatternKeyframe {
     pub frame: u16,
     pub texture_idx: TextureIdx,
@@ -29,14 +29,14 @@ pub struct PatternKeyframe {
 }
 
 // Where a list of names or keys stands, and how many it has.
-#[derive(Drop)]
+#[derive(Clone, Copy)]
 pub struct ItemList {
     pub place: usize,
     pub count: usize,
 }
 
 // What is known of a whole entry: its frames, its name lists, its tracks, its reach, and how many keys it has.
-#[derive(Drop)]
+#[derive(Clone, Copy)]
 pub struct Pattern {
     pub frames: u16,
     pub textures: ItemList,
@@ -46,7 +46,7 @@ pub struct Pattern {
     pub samples: u64,
 }
 
-#[derive(Drop)]
+#[derive(Clone, Copy)]
 pub enum PatternRead {
     Whole(Pattern),
     Refused(u8),
@@ -254,7 +254,7 @@ pub fn sample(s: &[u8], place: usize, count: usize, frame: u16) -> PatternKeyfra
 }
 
 // What a name chooses at a frame: the key that holds, nothing if no track has that name, and if its track has no keys it is empty.
-#[derive(Drop)]
+#[derive(Clone, Copy)]
 pub enum KeyFound {
     At(PatternKeyframe),
     Empty,

@@ -16,20 +16,20 @@ use nitro::entry::EntryCheck;
 use pattern::{PaletteIdx, TextureIdx};
 
 // What a tick does at the last frame: it stays there, or returns to the first.
-#[derive(Drop)]
+#[derive(Clone, Copy)]
 pub enum Mode {
     Hold,
     Loop,
 }
 
 // The entry that was picked.
-#[derive(Drop)]
+#[derive(Clone, Copy)]
 pub enum Picked {
     Nothing,
     Entry(usize),
 }
 
-#[derive(Drop)]
+#[derive(Clone, Copy)]
 pub struct Player {
     pub picked: Picked,
     pub frame: u16,
@@ -37,13 +37,13 @@ pub struct Player {
 }
 
 // The player after an event. A refused event changes nothing: the caller goes on with the player that it has.
-#[derive(Drop)]
+#[derive(Clone, Copy)]
 pub enum PlayerAnswer {
     Now(Player),
     Refused(u8),
 }
 
-#[derive(Drop)]
+#[derive(Clone, Copy)]
 pub enum PictureAnswer {
     Matrix(Mat4),
     Choice(TextureIdx, PaletteIdx),

@@ -12,7 +12,7 @@ use trs::{object_at, sample_at};
 const FRAME_BOUND: usize = 65536;
 
 // How many objects there are whose matrices were written.
-#[derive(Drop)]
+#[derive(Clone, Copy)]
 pub enum Posing {
     Objects(usize),
     Refused(u8),

@@ -21,7 +21,7 @@ const FLOAT: f64 = 1.1945305291614955e103;
 const BYTE: u8 = 0x55;
 
 // A stored call: its code and its arguments.
-#[derive(Drop)]
+#[derive(Clone, Copy)]
 struct Call {
     code: u8,
     entry: usize,

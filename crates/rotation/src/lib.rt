@@ -1,4 +1,6 @@
 // Rotations as they are stored: pivot and basis matrices.
+#![tactic(auto)]
+
 ghost use Rattle.std.specs.Prelude.{◌≡◌, ◌+◌, ◌<◌};
 ghost use Rattle.matrix.specs.Matrix.{col3};
 ghost use Rattle.matrix.specs.Matrix as spec;

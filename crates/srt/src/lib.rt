@@ -16,13 +16,13 @@ use nitro::entry::{MaterialOpen, open_material};
 use trs::CurveRecord;
 
 // Where a track's datum stands: the offset of its entry, and its place in the entry.
-#[derive(Drop)]
+#[derive(Clone, Copy)]
 struct TrackAt {
     offset: usize,
     datum: usize,
 }
 
-#[derive(Drop)]
+#[derive(Clone, Copy)]
 enum TrackFound {
     At(TrackAt),
     Refused(u8),

@@ -1,4 +1,6 @@
 // Text, written into a lent array from a position on; each function answers the next position.
+#![tactic(auto)]
+
 ghost use Rattle.std.specs.Prelude.{◌≡◌, [], ◌∷◌, ◌+◌, ◌<◌, ◌≤◌, length, take, drop};
 ghost use Rattle.text.specs.Text.{digit, digits, places, decimal, hex_digit, hex, line};
 ghost use Rattle.text.specs.Writes.{Wrote, keyed, line_room, room};

@@ -29,7 +29,7 @@ pub fn object_at(s: &[u8], a: Animation, o: usize) -> TRSCurves
     r.curves
 }
 
-#[derive(Drop)]
+#[derive(Clone, Copy)]
 pub enum AxisCurve {
     Of(ScalarCurve),
     Refused(u8),
@@ -54,7 +54,7 @@ fn axis_curve(a: AxisCurves, axis: usize) -> AxisCurve
     AxisCurve::Refused(9)
 }
 
-#[derive(Drop)]
+#[derive(Clone, Copy)]
 pub enum CurveRecord {
     Curve(ScalarRecord),
     Refused(u8),
@@ -71,7 +71,7 @@ pub fn record_axis(s: &[u8], a: AxisCurves, axis: usize, entry: usize) -> CurveR
     }
 }
 
-#[derive(Drop)]
+#[derive(Clone, Copy)]
 pub enum ScaleRecord {
     Curve(PairRecord),
     Refused(u8),
@@ -99,14 +99,14 @@ pub fn scale_value(s: &[u8], a: AxisCurves, axis: usize, index: usize) -> PairAn
     }
 }
 
-#[derive(Drop)]
+#[derive(Clone, Copy)]
 pub enum RotationRecord {
     None,
     Constant(Mat3),
     List(ListRecord),
 }
 
-#[derive(Drop)]
+#[derive(Clone, Copy)]
 pub enum RotationAnswer {
     Curve(RotationRecord),
     Refused(u8),

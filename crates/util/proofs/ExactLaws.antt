@@ -8,7 +8,7 @@ use borrow.Author.Tests.{leb-true, leb-false, le-ltb}
 use lib.Dec.{T, leb, ltb, eqb, ltb→lt, leb→le, lit<}
 use lib.IntN.{ℤ, pos, negsuc}
 use lib.Pow.{pow_pos, pow-add, pow-lt}
-use lib.Ieee.{Float, fin, binary64, up, down, round, sum, add, sub, mul, neg, fits, of_bits, to_bits}
+use lib.Ieee.{Float, fin, binary64, up, down, round, sum, add, sub, mul, neg, fits, of_bits, to_bits, nan, inf}
 use lib.Ieee.Bits.{of_bits-to_bits}
 use lib.Ieee.Exact.{HasValue, round_exact}
 use lib.Ieee.Fits.{down_pos, round-fits, and_l, and_r}
@@ -26,6 +26,10 @@ same_float x y s a c C p q v w = sym (of_bits-to_bits binary64 x p) ∙ ap (of_b
     size_is m e h = div_same (m * up e * 2 ^ 1074) (down e) (a * 2 ^ 1074) c (down_pos e) C (mul_right_comm (m * up e) (2 ^ 1074) c ∙ ap (λ (z : ℕ). z * 2 ^ 1074) h ∙ mul_right_comm a (down e) (2 ^ 1074))
 
     bits : (x y : Float) → HasValue x s a c → HasValue y s a c → to_bits binary64 x ≡ to_bits binary64 y
+    bits nan _ v w = elim v [ ]
+    bits (inf _) _ v w = elim v [ ]
+    bits (fin t m e) nan v w = elim w [ ]
+    bits (fin t m e) (inf _) v w = elim w [ ]
     bits (fin t m e) (fin u n d) v w = unfold to_bits in rw (v.0, w.0, size_is m e v.1, size_is n d w.1) refl
 
 -- 2 ^ e is a whole number of the smallest floats
@@ -97,6 +101,10 @@ module _ (s : Bool) (m : ℕ) (e : ℤ) where
 -- +0 is the difference of two that are the same whole number
 pub same_less : (x y : Float) (n : ℕ) → HasValue x false n 1 → HasValue y false n 1 → sub binary64 x y ≡ fin false 0 (pos 0)
 unfolding sub add neg sum
+same_less nan y n v w = elim v [ ]
+same_less (inf _) y n v w = elim v [ ]
+same_less (fin false m e) nan n v w = elim w [ ]
+same_less (fin false m e) (inf _) n v w = elim w [ ]
 same_less (fin true m e) y n v w = absurd (true≢false v.0)
 same_less (fin false m e) (fin true l d) n v w = absurd (true≢false w.0)
 same_less (fin false m e) (fin false l d) n v w =

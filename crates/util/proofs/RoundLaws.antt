@@ -64,6 +64,9 @@ at_most a b = go (ltb 0 (a + b)) refl
 
 pub apart : (x y : Float) → Signed x true → Signed y false → le x y ≡ true
 unfolding le
+apart nan y p q = elim p [ ]
+apart (inf s) nan p q = elim q [ ]
+apart (fin s m e) nan p q = elim q [ ]
 apart (inf s) (inf t) p q = rw (p, q)
 apart (inf s) (fin t n d) p q = rw p
 apart (fin s m e) (inf t) p q = rw q
@@ -80,6 +83,9 @@ swapped a b t = go (ltb a b) (eqb a b) refl t
 
 turned : (x y : Float) → Signed x false → Signed y false → T (le x y) → le (neg y) (neg x) ≡ true
 unfolding le neg
+turned nan y p q h = elim p [ ]
+turned (inf s) nan p q h = elim q [ ]
+turned (fin s m e) nan p q h = elim q [ ]
 turned (inf s) (inf t) p q h = rw (p, q)
 turned (inf s) (fin t n d) p q h = absurd (rw p at h)
 turned (fin s m e) (inf t) p q h = rw q
@@ -100,6 +106,10 @@ unlike_false false = refl
 -- a whole number over another is one rounding
 pub quotient : (x y : Float) (s : Bool) (a b : ℕ) → HasValue x s a 1 → HasValue y false b 1 → 0 < b → div binary64 x y ≡ round binary64 s a b
 unfolding div
+quotient nan y s a b v w B = elim v [ ]
+quotient (inf _) y s a b v w B = elim v [ ]
+quotient (fin t m e) nan s a b v w B = elim w [ ]
+quotient (fin t m e) (inf _) s a b v w B = elim w [ ]
 quotient (fin t m e) (fin true n d) s a b v w B = absurd (true≢false w.0)
 quotient (fin t m e) (fin false n d) s a b v w B =
     let y_pos : 0 < n * up d = subst (λ (k : ℕ). 0 < k) (sym (sym (mul-one (n * up d)) ∙ w.1)) (mul-pos B (down_pos d)) in

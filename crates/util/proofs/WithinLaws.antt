@@ -7,7 +7,7 @@ use native.Mathlib.Nat.{one-mul, lt_of_le_of_lt, le_trans, le_of_eq, le_of_lt, m
 use native.Mathlib.Omega.{arith}
 use lib.Dec.{T, ltb, eqb, eqb→eq, ltb→lt, lit<}
 use lib.IntN.{pos}
-use lib.Ieee.{Float, inf, fin, binary64, up, down, unlike, round, neg, sum, add, sub, mul, of_int, le, is_nan}
+use lib.Ieee.{Float, inf, fin, binary64, up, down, unlike, round, neg, sum, add, sub, mul, of_int, le, is_nan, nan}
 use lib.Ieee.Fits.{down_pos, and_l}
 use lib.Pow.{pow-add, pow_mono, pow-lt}
 use lib.Ieee.Exact.{HasValue, round_exact}
@@ -18,10 +18,14 @@ use Rattle.util.proofs.RoundLaws.{neg_round, Signed, sign_round}
 
 pub no_nan : (x : Float) (n : ℕ) → Within x n → T (not (is_nan x))
 unfolding is_nan
+no_nan nan n h = elim h [ ]
+no_nan (inf _) n h = elim h [ ]
 no_nan (fin s m e) n h = tt
 
 pub within_neg : (x : Float) (n : ℕ) → Within x n → Within (neg x) n
 unfolding neg
+within_neg nan n h = elim h [ ]
+within_neg (inf _) n h = elim h [ ]
 within_neg (fin s m e) n h = h
 
 or_split : (a b : Bool) → T (a || b) → T a ⊎ T b
@@ -33,6 +37,11 @@ lt_or_eq a b t = elim (or_split (ltb a b) (eqb a b && true) t) [ inl u ↦ le_of
 
 within_of_le : (x y : Float) (n : ℕ) → Signed x false → HasValue y false n 1 → T (le x y) → Within x n
 unfolding le
+within_of_le nan y n s v h = elim s [ ]
+within_of_le (inf false) nan n s v h = elim v [ ]
+within_of_le (inf false) (inf _) n s v h = elim v [ ]
+within_of_le (fin false k d) nan n s v h = elim v [ ]
+within_of_le (fin false k d) (inf _) n s v h = elim v [ ]
 within_of_le (inf true) y n s v h = absurd (true≢false s)
 within_of_le (inf false) (fin t m e) n s v h = absurd h
 within_of_le (fin true k d) y n s v h = absurd (true≢false s)
@@ -65,6 +74,8 @@ unfolding of_int
 within_whole n k h l = round_within false n 1 k (lit< tt) l (le_trans h (le_of_eq (sym (mul-one k))))
 
 pub within_le : (x : Float) (p q : ℕ) → p ≤ q → Within x p → Within x q
+within_le nan p q l h = elim h [ ]
+within_le (inf _) p q l h = elim h [ ]
 within_le (fin s m e) p q l h = le_trans h (mul-le-mul_right (down e) l)
 
 -- ---- the operations, with powers of two up to 2 ^ 1023: the exponents add up
@@ -79,6 +90,10 @@ round_small s a c k C N h = round_upto_float (2 ^ k) (power k N) s a c C h
 
 pub small_mul : (x y : Float) (j k : ℕ) → j + k ≤ 1023 → Within x (2 ^ j) → Within y (2 ^ k) → Within (mul binary64 x y) (2 ^ (j + k))
 unfolding mul
+small_mul nan y j k L h l = elim h [ ]
+small_mul (inf _) y j k L h l = elim h [ ]
+small_mul (fin s m e) nan j k L h l = elim l [ ]
+small_mul (fin s m e) (inf _) j k L h l = elim l [ ]
 small_mul (fin s m e) (fin t n d) j k L h l =
     round_small (unlike s t) (m * up e * (n * up d)) (down e * down d) (j + k) (mul-pos (down_pos e) (down_pos d)) L
     (le_trans (mul-le-mul h l) (le_of_eq (mul-mul-mul_comm (2 ^ j) (down e) (2 ^ k) (down d) ∙ ap (λ (z : ℕ). z * (down e * down d)) (sym (pow-add 2 j k)))))
@@ -95,6 +110,10 @@ small_sum s a t b c k C N h = go (beq s t) (ltb a b)
 -- a sum of two values of at most 2 ^ k is at most 2 ^ (k + 1)
 pub small_add : (x y : Float) (k : ℕ) → k + 1 ≤ 1023 → Within x (2 ^ k) → Within y (2 ^ k) → Within (add binary64 x y) (2 ^ (k + 1))
 unfolding add
+small_add nan y k L h l = elim h [ ]
+small_add (inf _) y k L h l = elim h [ ]
+small_add (fin s m e) nan k L h l = elim l [ ]
+small_add (fin s m e) (inf _) k L h l = elim l [ ]
 small_add (fin s m e) (fin t n d) k L h l =
     let p = 2 ^ k in
     let a : m * up e * down d ≤ p * (down e * down d) = le_trans (mul-le-mul_right (down d) h) (le_of_eq (mul_assoc p (down e) (down d))) in
@@ -121,6 +140,8 @@ grow x j k l h = within_le x (2 ^ j) (2 ^ k) (pow_mono l) h
 -- ---- without a sign
 
 upto_of : (x : Float) (n : ℕ) → Signed x false → Within x n → Upto x n
+upto_of nan n s h = elim s [ ]
+upto_of (inf _) n s h = elim h [ ]
 upto_of (fin t m e) n s h = (s, h)
 
 -- a fraction of at most n rounds to a value of at most n
@@ -128,4 +149,6 @@ pub round_upto : (a c n : ℕ) → 0 < c → n ≤ 2 ^ 53 → a ≤ n * c → Up
 round_upto a c n C N h = upto_of (round binary64 false a c) n (sign_round binary64 false a c) (round_within false a c n C N h)
 
 pub upto_within : (x : Float) (n : ℕ) → Upto x n → Within x n
+upto_within nan n u = elim u [ ]
+upto_within (inf _) n u = elim u [ ]
 upto_within (fin s m e) n u = u.1

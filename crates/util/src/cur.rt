@@ -2,21 +2,21 @@
 ghost use Rattle.std.specs.Prelude.{◌≡◌, max};
 
 // The position of the next field, and how far the parts reach that have been read.
-#[derive(Drop)]
+#[derive(Clone, Copy)]
 pub struct Cur {
     pub pos: usize,
     pub reach: usize,
 }
 
 // The reach, or the refusal's number.
-#[derive(Drop)]
+#[derive(Clone, Copy)]
 pub enum Reach {
     Whole(usize),
     Refused(u8),
 }
 
 // How far some items reach, and how many values their lists have; or the refusal's number.
-#[derive(Drop)]
+#[derive(Clone, Copy)]
 pub enum Tally {
     Whole(usize, u64),
     Refused(u8),

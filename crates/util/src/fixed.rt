@@ -8,7 +8,7 @@ ghost use Rattle.util.specs.FixedCode.{limits_of};
 use crate::bits::bits32;
 
 // How many whole and fraction bits stand behind a format's sign, and its least and greatest value.
-#[derive(Drop)]
+#[derive(Clone, Copy)]
 pub struct Limits {
     pub whole: u32,
     pub fraction: u32,
@@ -58,7 +58,7 @@ fn number(x: u32, bits: u32, fraction: u32) -> f64
     integer / ((1u32 << fraction) as f64)
 }
 
-#[derive(Drop)]
+#[derive(Clone, Copy)]
 pub struct Fix1_19_12;
 
 impl Fix1_19_12 {
@@ -87,7 +87,7 @@ impl Fix1_19_12 {
     }
 }
 
-#[derive(Drop)]
+#[derive(Clone, Copy)]
 pub struct Fix1_3_12;
 
 impl Fix1_3_12 {
@@ -116,7 +116,7 @@ impl Fix1_3_12 {
     }
 }
 
-#[derive(Drop)]
+#[derive(Clone, Copy)]
 pub struct Fix1_10_5;
 
 impl Fix1_10_5 {
@@ -145,7 +145,7 @@ impl Fix1_10_5 {
     }
 }
 
-#[derive(Drop)]
+#[derive(Clone, Copy)]
 pub struct Fix1_0_12;
 
 impl Fix1_0_12 {

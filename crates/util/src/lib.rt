@@ -1,4 +1,6 @@
 // Bit fields, number formats and the words of a slice. specs/ has their meanings, the readers of a section among them.
+#![tactic(auto)]
+
 pub mod bits;
 pub mod cur;
 pub mod fixed;

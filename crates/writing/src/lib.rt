@@ -8,7 +8,7 @@ use check::check_lists;
 use pattern_section::put_section;
 
 // How many bytes the section has, or why it is refused.
-#[derive(Drop)]
+#[derive(Clone, Copy)]
 pub enum Writing {
     Written(usize),
     Refused(u8),

@@ -1,0 +1,6 @@
+use borrow.Author.Rules.{rules}
+use Rattle.curve.proofs.lerp_col.Goals as goal
+
+-- `curve::lerp_col` meets its contract. Assumes nothing.
+pub returns : goal.returns
+returns c = cc

@@ -1,0 +1,20 @@
+use Prim.Native.Nat.{◌*◌}
+use mathlib.Core.List.{flatten}
+use native.Mathlib.Omega.{arith}
+use Rattle.util.specs.View.{little_bytes}
+use Rattle.util.proofs.Fields.{nothing, word}
+use borrow.Author.Rules.{rules}
+use Rattle.info_block.proofs.put_head.Goals as goal
+
+-- `info_block::put_head` meets its contract. Assumes nothing.
+pub returns : goal.returns
+unfolding flatten little_bytes
+returns c =
+    let a = c.args in
+    let v1 = word (nothing a.out.now a.at) 1 0 c.put_word-a.new.out c.put_word-a.result c.put_word-a.ensures in
+    let v2 = word v1 1 a.count c.put_word-b.new.out c.put_word-b.result c.put_word-b.ensures in
+    let v3 = word v2 10 0 c.put_word-c.new.out c.put_word-c.result c.put_word-c.ensures in
+    let v4 = word v3 (4 * a.count) 0 c.put_word-d.new.out c.put_word-d.result c.put_word-d.ensures in
+    let v5 = word v4 2 a.size c.put_word-e.new.out c.put_word-e.result c.put_word-e.ensures in
+    let v6 = word v5 2 0 c.put_word.new.out c.put_word.result c.put_word.ensures in
+    (omega arith, v6.is)

@@ -1,0 +1,6 @@
+use borrow.Author.Rules.{rules}
+use Rattle.rotation.proofs.column.Goals as goal
+
+-- `rotation::column` meets its contract. Assumes nothing.
+pub returns : goal.returns
+returns c = cc
