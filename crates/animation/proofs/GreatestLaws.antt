@@ -13,7 +13,6 @@ use lib.Bits.{bit_xor, xor_block, xor_comm, xor_shifted, xor_zero_r}
 use lib.Dec.{leb, lit<}
 use lib.ListN.{length, drop, drop_of_length-le}
 use lib.Seq.{drop-cons}
-use Rattle.util.specs.declared.cur.Reach.{Reach}
 use Rattle.util.specs.declared.cur.Reach.TheVariants.{Whole, Refused}
 use Rattle.util.specs.Bits.{bits, bit}
 use Rattle.util.specs.View.{little, word_at, view}

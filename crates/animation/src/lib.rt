@@ -1,4 +1,6 @@
 // A JNT0 entry: animations. The slice starts at the entry, and positions count from there.
+#![tactic(auto)]
+
 ghost use Rattle.std.specs.Prelude.{true, false, List, ◌≡◌, ℕ, ◌+◌, ◌*◌, ◌<◌, ◌≤◌, eqb, length, drop};
 ghost use Rattle.util.specs.Bits.{bits};
 ghost use Rattle.util.specs.View.{little, view};

@@ -1,4 +1,6 @@
 // An SRT0 entry: material animations.
+#![tactic(auto)]
+
 ghost use Rattle.std.specs.Prelude.{List, ◌≡◌, ◌+◌, ◌*◌, ◌<◌, ◌≤◌, length, drop, Float};
 ghost use Rattle.matrix.specs.Matrix.{f0};
 ghost use Rattle.util.specs.Reader.{run, each};

@@ -1,4 +1,6 @@
 // The curves of an animation's object, and their records.
+#![tactic(auto)]
+
 ghost use Rattle.std.specs.Prelude.{◌≡◌, map, ◌+◌, ◌<◌, ◌≤◌, length, take, drop, get_or};
 ghost use Rattle.util.specs.Reader.{answered};
 ghost use Rattle.curve.specs.Curve.{pair_at, recorded, mix_mat, sample_at};

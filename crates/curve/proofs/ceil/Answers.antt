@@ -2,7 +2,6 @@ use mathlib.Core.Path.{sym}
 use native.Mathlib.Nat.{le_trans}
 use lib.Dec.{lit≤}
 use Rattle.curve.proofs.FloorLaws as laws
-use borrow.Author.Rules.{rules}
 use Rattle.curve.proofs.ceil.Goals as goal
 
 -- `curve::ceil` meets its contract. Assumes nothing.

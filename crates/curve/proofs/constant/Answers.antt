@@ -1,6 +1,5 @@
 use mathlib.Core.Path.{ap, ◌∙◌}
 use Rattle.util.specs.Fixed.{fix1_19_12, fixed}
-use borrow.Author.Rules.{rules}
 use Rattle.curve.proofs.constant.Goals as goal
 
 -- `curve::constant` meets its contract. Assumes nothing.

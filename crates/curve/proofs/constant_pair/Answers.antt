@@ -4,7 +4,6 @@ use native.Mathlib.Nat.{add-zero}
 use lib.ListN.{drop}
 use Rattle.util.specs.Fixed.{fix1_19_12}
 use Rattle.curve.specs.Curve.{pair_of}
-use borrow.Author.Rules.{rules}
 use Rattle.curve.proofs.constant_pair.Goals as goal
 
 -- `curve::constant_pair` meets its contract. Assumes nothing.

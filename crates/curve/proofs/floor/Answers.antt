@@ -2,7 +2,6 @@ use mathlib.Core.Path.{sym}
 use native.Mathlib.Nat.{le_trans}
 use lib.Dec.{lit≤}
 use Rattle.curve.proofs.FloorLaws as laws
-use borrow.Author.Rules.{rules}
 use Rattle.curve.proofs.floor.Goals as goal
 
 -- `curve::floor` meets its contract. Assumes nothing.

@@ -1,4 +1,3 @@
-use borrow.Author.Rules.{rules}
 use Rattle.curve.proofs.lerp_col.Goals as goal
 
 -- `curve::lerp_col` meets its contract. Assumes nothing.

@@ -1,5 +1,4 @@
 use Rattle.curve.specs.Curve.{mix_mat}
-use borrow.Author.Rules.{rules}
 use Rattle.curve.proofs.lerp_mat.Goals as goal
 
 -- `curve::lerp_mat` meets its contract. Assumes nothing.

@@ -1,9 +1,7 @@
 use mathlib.Core.Path.{sym}
 use native.Mathlib.Nat.{le_trans, le_of_eq, lt_of_le_of_lt}
-use native.Mathlib.Omega.{arith}
 use Rattle.curve.specs.Curve.{index}
 use Rattle.curve.proofs.IndexLaws as ix
-use borrow.Author.Rules.{rules}
 use Rattle.curve.proofs.locate.Goals as goal
 
 pub floor-lo-requires : goal.floor-lo-requires
@@ -23,9 +21,8 @@ int_to_float-g c =
 
 pub returns : goal.returns
 unfolding index
-returns c =
-    (
-      cc,
-      le_trans (le_of_eq c.floor-lo.ensures) (le_trans (ix.floor-le-ceil _) (le_of_eq (sym c.ceil-hi.ensures))),
-      lt_of_le_of_lt (le_of_eq c.ceil-hi.ensures) (ix.hi_lt _ _ _ _ c.requires.0 c.requires.1 c.ranges.end.fits c.requires.2 c.requires.3),
-    )
+returns c = (
+  cc,
+  le_trans (le_of_eq c.floor-lo.ensures) (le_trans (ix.floor-le-ceil _) (le_of_eq (sym c.ceil-hi.ensures))),
+  lt_of_le_of_lt (le_of_eq c.ceil-hi.ensures) (ix.hi_lt _ _ _ _ c.requires.0 c.requires.1 c.ranges.end.fits c.requires.2 c.requires.3),
+)

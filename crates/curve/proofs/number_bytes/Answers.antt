@@ -3,7 +3,6 @@ use lib.Dec.{lit≤}
 use Rattle.curve.specs.declared.Number.{Number}
 use Rattle.curve.specs.Curve.{number_bytes}
 use Rattle.curve.specs.CurveCode.{format_means}
-use borrow.Author.Rules.{rules}
 use Rattle.curve.proofs.number_bytes.Goals as goal
 
 -- `curve::number_bytes` meets its contract. Assumes nothing.

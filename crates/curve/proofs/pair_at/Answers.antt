@@ -4,7 +4,6 @@ use native.Mathlib.Omega.{arith}
 use Rattle.curve.specs.Curve.{pair_of}
 use Rattle.curve.specs.CurveCode.{InsideOf}
 use Rattle.curve.proofs.SampleLaws.{value_count, pair_inside, pair_there, pair_past, pair_found}
-use borrow.Author.Rules.{rules}
 use Rattle.curve.proofs.pair_at.Goals as goal
 
 -- `curve::pair_at` meets its contract. Assumes nothing.

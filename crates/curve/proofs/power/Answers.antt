@@ -2,7 +2,6 @@ use Prim.Native.Nat.{◌^◌, ◌≤◌}
 use native.Mathlib.Nat.{pow-le-pow_right}
 use native.Mathlib.Omega.{arith}
 use lib.Dec.{lit<}
-use borrow.Author.Rules.{rules}
 use Rattle.curve.proofs.power.Goals as goal
 
 -- `curve::power` meets its contract. Assumes nothing.

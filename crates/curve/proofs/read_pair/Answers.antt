@@ -1,6 +1,5 @@
 use Rattle.curve.specs.CurveCode.{format_means}
 use Rattle.curve.proofs.SampleLaws.{pair_read}
-use borrow.Author.Rules.{rules}
 use Rattle.curve.proofs.read_pair.Goals as goal
 
 -- `curve::read_pair` meets its contract. Assumes nothing.

@@ -4,7 +4,6 @@ use native.Mathlib.Omega.{arith}
 use lib.Pow.{pow_pos}
 use Rattle.curve.specs.Curve.{counted_from}
 use Rattle.curve.specs.CurveCode.{list_record_means}
-use borrow.Author.Rules.{rules}
 use Rattle.curve.proofs.record_list.Goals as goal
 
 -- `curve::record_list` meets its contract. Assumes nothing.

@@ -4,7 +4,6 @@ use Rattle.curve.specs.declared.ScalarCurve.{ScalarCurve}
 use Rattle.curve.specs.Curve.{recorded, always, pair_of}
 use Rattle.curve.specs.CurveCode.{pair_curve, InsideOf}
 use Rattle.curve.proofs.SampleLaws.{value_count, list_recorded}
-use borrow.Author.Rules.{rules}
 use Rattle.curve.proofs.record_pairs.Goals as goal
 
 -- `curve::record_pairs` meets its contract. Assumes nothing.

@@ -4,7 +4,6 @@ use Rattle.curve.specs.declared.ScalarCurve.{ScalarCurve}
 use Rattle.curve.specs.Curve.{recorded, always, number_of}
 use Rattle.curve.specs.CurveCode.{scalar_curve, Inside}
 use Rattle.curve.proofs.SampleLaws.{value_count, list_recorded}
-use borrow.Author.Rules.{rules}
 use Rattle.curve.proofs.record_scalar.Goals as goal
 
 -- `curve::record_scalar` meets its contract. Assumes nothing.

@@ -5,7 +5,6 @@ use Rattle.curve.specs.declared.ScalarCurve.{ScalarCurve}
 use Rattle.curve.specs.Curve.{sample_count, number_of}
 use Rattle.curve.specs.CurveCode.{scalar_curve}
 use Rattle.curve.proofs.SampleLaws.{value_count}
-use borrow.Author.Rules.{rules}
 use Rattle.curve.proofs.sample_count.Goals as goal
 
 -- `curve::sample_count` meets its contract. Assumes nothing.

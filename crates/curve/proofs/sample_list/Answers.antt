@@ -1,7 +1,6 @@
 use Rattle.curve.specs.Curve.{mix, number_of}
 use Rattle.curve.proofs.MixLaws.{number_same}
 use Rattle.curve.proofs.SampleLaws.{value_count, value_inside, value_there, sample_on, sample_between}
-use borrow.Author.Rules.{rules}
 use Rattle.curve.proofs.sample_list.Goals as goal
 
 -- `curve::sample_list` meets its contract. Assumes nothing.

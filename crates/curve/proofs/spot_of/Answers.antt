@@ -2,7 +2,6 @@ use Prim.Native.Nat.{◌-◌}
 use mathlib.Core.Path.{refl}
 use native.Mathlib.Omega.{arith}
 use borrow.Author.Tests.{le-leb, lt-leb}
-use borrow.Author.Rules.{rules}
 use Rattle.curve.proofs.SampleLaws.{on_value_in, index_in}
 use Rattle.curve.proofs.spot_of.Goals as goal
 

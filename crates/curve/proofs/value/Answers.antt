@@ -5,7 +5,6 @@ use Rattle.curve.specs.Curve.{number_bytes}
 use Rattle.curve.specs.CurveCode.{format_means}
 use Rattle.curve.specs.declared.Number.{Number}
 use Rattle.curve.proofs.SampleLaws.{number_as}
-use borrow.Author.Rules.{rules}
 use Rattle.curve.proofs.value.Goals as goal
 
 -- `curve::value` meets its contract. Assumes nothing.

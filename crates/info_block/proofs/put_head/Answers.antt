@@ -3,7 +3,6 @@ use mathlib.Core.List.{flatten}
 use native.Mathlib.Omega.{arith}
 use Rattle.util.specs.View.{little_bytes}
 use Rattle.util.proofs.Fields.{nothing, word}
-use borrow.Author.Rules.{rules}
 use Rattle.info_block.proofs.put_head.Goals as goal
 
 -- `info_block::put_head` meets its contract. Assumes nothing.

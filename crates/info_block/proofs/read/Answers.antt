@@ -1,7 +1,6 @@
 use mathlib.Core.Path.{sym, ◌∙◌}
 use native.Mathlib.Omega.{arith}
 use Rattle.info_block.proofs.InfoBlockLaws.{few, header_short, lists_short, not_zero, wrong_size, whole}
-use borrow.Author.Rules.{rules}
 use Rattle.info_block.proofs.read.Goals as goal
 
 -- `info_block::read` meets its contract. Assumes nothing.

@@ -1,5 +1,4 @@
 use Rattle.rotation.specs.Rotation.{basis_mat}
-use borrow.Author.Rules.{rules}
 use Rattle.rotation.proofs.basis_mat.Goals as goal
 
 -- `rotation::basis_mat` meets its contract. Assumes nothing.

@@ -1,4 +1,3 @@
-use borrow.Author.Rules.{rules}
 use Rattle.rotation.proofs.column.Goals as goal
 
 -- `rotation::column` meets its contract. Assumes nothing.

@@ -1,6 +1,5 @@
 use mathlib.Core.Path.{refl}
 use Rattle.rotation.specs.RotationCode.{digit}
-use borrow.Author.Rules.{rules}
 use Rattle.rotation.proofs.entry.Goals as goal
 
 -- `rotation::entry` meets its contract. Assumes nothing.

@@ -3,7 +3,6 @@ use mathlib.Core.Path.{◌≡◌, ◌∙◌, ap}
 use native.Mathlib.Omega.{arith}
 use Rattle.util.specs.Fixed.{fix1_0_12, fixed}
 use Rattle.util.specs.Bits.{bits}
-use borrow.Author.Rules.{rules}
 use Rattle.rotation.proofs.high_bits.Goals as goal
 
 -- `rotation::high_bits` meets its contract. Assumes nothing.

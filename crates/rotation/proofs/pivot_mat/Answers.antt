@@ -3,7 +3,6 @@ use lib.Dec.{lit<}
 use lib.Ieee.{of_bits}
 use Rattle.rotation.specs.Rotation.{pivot_mat}
 use Rattle.rotation.proofs.RotationLaws.{under_three, by_columns}
-use borrow.Author.Rules.{rules}
 use Rattle.rotation.proofs.pivot_mat.Goals as goal
 
 -- `rotation::pivot_mat` meets its contract. Assumes nothing.

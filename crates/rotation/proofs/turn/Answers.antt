@@ -1,6 +1,5 @@
 use mathlib.Core.Path.{sym, ◌∙◌, refl}
 use Rattle.rotation.specs.Rotation.{turned}
-use borrow.Author.Rules.{rules}
 use Rattle.rotation.proofs.turn.Goals as goal
 
 -- `rotation::turn` meets its contract. Assumes nothing.

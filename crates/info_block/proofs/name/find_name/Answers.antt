@@ -1,8 +1,5 @@
-use Prim.Native.Nat.{◌-◌}
 use native.Mathlib.Omega.{arith}
-use Rattle.info_block.proofs.EarliestLaws.{NoneBelow}
-use Rattle.info_block.proofs.NameLaws.{all, found_here, not_here, found_nowhere}
-use borrow.Author.Rules.{rules}
+use Rattle.info_block.proofs.NameLaws.{found_here, not_here, found_nowhere}
 use Rattle.info_block.proofs.name.find_name.Goals as goal
 
 pub loop-i-init : goal.loop-i-init

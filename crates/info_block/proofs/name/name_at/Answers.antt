@@ -1,7 +1,6 @@
 use Prim.Native.Nat.{ℕ}
 use native.Mathlib.Omega.{arith}
 use Rattle.info_block.proofs.NameLaws.{words_mean}
-use borrow.Author.Rules.{rules}
 use Rattle.info_block.proofs.name.name_at.Goals as goal
 
 -- `info_block::name::name_at` meets its contract. Assumes nothing.

@@ -1,5 +1,4 @@
 use Rattle.info_block.proofs.NameLaws.{name_past, name_there}
-use borrow.Author.Rules.{rules}
 use Rattle.info_block.proofs.name.name_in.Goals as goal
 
 -- `info_block::name::name_in` meets its contract. Assumes nothing.

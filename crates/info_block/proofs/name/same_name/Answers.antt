@@ -1,8 +1,6 @@
-use Prim.Native.Nat.{◌≤◌, ◌-◌}
-use mathlib.Core.Path.{◌≡◌, refl, sym, ◌∙◌}
+use mathlib.Core.Path.{refl, sym, ◌∙◌}
 use native.Mathlib.Omega.{arith}
-use Rattle.info_block.proofs.NameLaws.{equal_rest, rest_differ, rest_ends, rest_goes_on, rest_none}
-use borrow.Author.Rules.{rules}
+use Rattle.info_block.proofs.NameLaws.{rest_differ, rest_ends, rest_goes_on, rest_none}
 use Rattle.info_block.proofs.name.same_name.Goals as goal
 
 pub loop-k-init : goal.loop-k-init

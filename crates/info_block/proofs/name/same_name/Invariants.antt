@@ -1,8 +1,6 @@
 use Prim.Native.Nat.{◌≤◌, ◌-◌}
-use mathlib.Core.Path.{◌≡◌, refl, sym, ◌∙◌}
-use native.Mathlib.Omega.{arith}
-use Rattle.info_block.proofs.NameLaws.{equal_rest, rest_differ, rest_ends, rest_goes_on, rest_none}
-use borrow.Author.Rules.{rules}
+use mathlib.Core.Path.{◌≡◌}
+use Rattle.info_block.proofs.NameLaws.{equal_rest}
 use Rattle.info_block.proofs.name.same_name.Given as goal
 
 -- `info_block::name::same_name` meets its contract. Assumes nothing.
