@@ -1,4 +1,6 @@
 // Domains of curves, and three curves resampled onto the union of theirs.
+#![tactic(auto)]
+
 ghost use Rattle.std.specs.Prelude.{◌≡◌, false, List, ℕ, ◌-◌, ◌*◌, ◌/◌, ◌<◌, ◌≤◌, min, length};
 ghost use Rattle.std.proofs.lemmas.List.Edits.{sets};
 ghost use Rattle.curve.specs.CurveCode.{Inside, scalar_curve};

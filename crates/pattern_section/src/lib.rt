@@ -1,4 +1,6 @@
 // A PAT0 section of one entry, written into a slice part by part: each from `at` on, and it answers where the next one goes.
+#![tactic(auto)]
+
 ghost use mathlib.Core.List.{[], ◌∷◌, flatten};
 ghost use Rattle.std.specs.Prelude.{◌≡◌, ◌+◌, ◌*◌, ◌<◌, ◌≤◌, length};
 ghost use Rattle.std.proofs.lemmas.List.Edits.{sets};

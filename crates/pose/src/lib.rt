@@ -1,4 +1,6 @@
 // The matrices of all objects of an entry, at frames one after the other, as floats.
+#![tactic(auto)]
+
 ghost use Rattle.std.specs.Prelude.{◌+◌, ◌*◌, ◌<◌, ◌≤◌, length};
 ghost use Rattle.animation.specs.AnimationCode.{WholeAnimation, object_curves, InsideObject};
 ghost use Rattle.pose.specs.Pose.{frame_bound, clip_into};

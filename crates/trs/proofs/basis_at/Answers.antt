@@ -1,5 +1,4 @@
 use Rattle.trs.proofs.TrsLaws.{basis_there}
-use borrow.Author.Rules.{rules}
 use Rattle.trs.proofs.basis_at.Goals as goal
 
 -- `trs::basis_at` meets its contract. Assumes nothing.

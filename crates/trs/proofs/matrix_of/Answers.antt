@@ -5,7 +5,6 @@ use lib.ListN.{length}
 use Rattle.animation.specs.declared.Referred.{Referred as CodeReferred}
 use Rattle.animation.specs.Animation.{Referred, pivot_record, basis_record}
 use Rattle.animation.specs.AnimationCode.{referred_means, matrix_in}
-use borrow.Author.Rules.{rules}
 use Rattle.trs.proofs.matrix_of.Goals as goal
 
 -- `trs::matrix_of` meets its contract. Assumes nothing.

@@ -1,5 +1,4 @@
 use Rattle.trs.proofs.TrsLaws.{object_read}
-use borrow.Author.Rules.{rules}
 use Rattle.trs.proofs.object_at.Goals as goal
 
 -- `trs::object_at` meets its contract. Assumes nothing.

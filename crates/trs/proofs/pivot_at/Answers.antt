@@ -1,5 +1,4 @@
 use Rattle.trs.proofs.TrsLaws.{pivot_there}
-use borrow.Author.Rules.{rules}
 use Rattle.trs.proofs.pivot_at.Goals as goal
 
 -- `trs::pivot_at` meets its contract. Assumes nothing.

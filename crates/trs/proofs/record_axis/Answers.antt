@@ -5,7 +5,6 @@ use Rattle.curve.specs.Curve.{Curve, recorded}
 use Rattle.curve.specs.CurveCode.{scalar_curve, Inside}
 use Rattle.trs.specs.TrsCode.{AxisIs}
 use Rattle.trs.proofs.TrsLaws.{axis_holds, on_axis_lem, past_axes}
-use borrow.Author.Rules.{rules}
 use Rattle.trs.proofs.record_axis.Goals as goal
 
 -- `trs::record_axis` meets its contract. Assumes nothing.

@@ -5,7 +5,6 @@ use Rattle.curve.proofs.SampleLaws.{list_recorded}
 use Rattle.animation.specs.declared.RotationCurve.{RotationCurve}
 use Rattle.animation.specs.AnimationCode.{rotation_curve, InsideRotation}
 use Rattle.animation.proofs.RotationLaws.{matrix_count}
-use borrow.Author.Rules.{rules}
 use Rattle.trs.proofs.record_rotation.Goals as goal
 
 -- `trs::record_rotation` meets its contract. Assumes nothing.

@@ -4,7 +4,6 @@ use Rattle.curve.specs.Curve.{Curve, recorded, Pair}
 use Rattle.curve.specs.CurveCode.{pair_curve, InsideOf}
 use Rattle.trs.specs.TrsCode.{AxisIs}
 use Rattle.trs.proofs.TrsLaws.{axis_holds, on_axis_lem, past_axes}
-use borrow.Author.Rules.{rules}
 use Rattle.trs.proofs.record_scale.Goals as goal
 
 -- `trs::record_scale` meets its contract. Assumes nothing.

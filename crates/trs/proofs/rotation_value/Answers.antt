@@ -1,5 +1,4 @@
 use Rattle.trs.proofs.TrsLaws.{reference_inside, matrix_there}
-use borrow.Author.Rules.{rules}
 use Rattle.trs.proofs.rotation_value.Goals as goal
 
 -- `trs::rotation_value` meets its contract. Assumes nothing.

@@ -1,9 +1,7 @@
 use mathlib.Core.Path.{refl}
 use lib.Ieee.{of_bits}
-use Rattle.animation.specs.declared.Triple.{Triple}
 use Rattle.animation.specs.Animation.{matrix_at}
-use Rattle.animation.proofs.ObjectLaws.{first_of_axes, triple_inside}
-use borrow.Author.Rules.{rules}
+use Rattle.animation.proofs.ObjectLaws.{first_of_axes}
 use Rattle.trs.proofs.sample_at.Goals as goal
 
 -- `trs::sample_at` meets its contract. Assumes nothing.

@@ -1,6 +1,5 @@
 use mathlib.Core.Path.{refl}
 use Rattle.animation.specs.Animation.{axes_at}
-use borrow.Author.Rules.{rules}
 use Rattle.trs.proofs.sample_axes.Goals as goal
 
 -- `trs::sample_axes` meets its contract. Assumes nothing.

@@ -3,7 +3,6 @@ use Rattle.curve.specs.Curve.{mix_mat}
 use Rattle.curve.proofs.SampleLaws.{sample_on, sample_between}
 use Rattle.animation.proofs.RotationLaws.{matrix_count}
 use Rattle.trs.proofs.TrsLaws.{matrix_same}
-use borrow.Author.Rules.{rules}
 use Rattle.trs.proofs.sample_rotations.Goals as goal
 
 -- `trs::sample_rotations` meets its contract. Assumes nothing.

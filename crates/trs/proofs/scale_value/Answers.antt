@@ -3,7 +3,6 @@ use Rattle.curve.specs.Curve.{Curve, Pair, pair_at}
 use Rattle.curve.specs.CurveCode.{pair_curve, InsideOf}
 use Rattle.trs.specs.TrsCode.{AxisIs}
 use Rattle.trs.proofs.TrsLaws.{axis_holds, on_axis_lem, past_axes}
-use borrow.Author.Rules.{rules}
 use Rattle.trs.proofs.scale_value.Goals as goal
 
 -- `trs::scale_value` meets its contract. Assumes nothing.

@@ -1,5 +1,4 @@
 use Rattle.nitro.proofs.ContainerLaws.{no_entry, entry_stands}
-use borrow.Author.Rules.{rules}
 use Rattle.nitro.proofs.container.entry_in.Goals as goal
 
 -- `nitro::container::entry_in` meets its contract. Assumes nothing.

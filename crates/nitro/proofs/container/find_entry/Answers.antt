@@ -1,6 +1,5 @@
 use Rattle.util.proofs.ReadsLaws.{known, stops}
 use Rattle.nitro.specs.Container.{entry}
-use borrow.Author.Rules.{rules}
 use Rattle.nitro.proofs.container.find_entry.Goals as goal
 
 -- `nitro::container::find_entry` meets its contract. Assumes nothing.

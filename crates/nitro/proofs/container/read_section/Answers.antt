@@ -1,6 +1,5 @@
 use Rattle.util.proofs.ReadsLaws.{alike}
 use Rattle.nitro.proofs.ContainerLaws.{size_short, header_run}
-use borrow.Author.Rules.{rules}
 use Rattle.nitro.proofs.container.read_section.Goals as goal
 
 -- `nitro::container::read_section` meets its contract. Assumes nothing.

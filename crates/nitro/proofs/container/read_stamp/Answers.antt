@@ -1,6 +1,5 @@
 use Rattle.nitro.specs.Container.{all_kinds}
 use Rattle.nitro.proofs.ContainerLaws.{stamp_cut, is_jnt, is_srt, is_pat, is_none}
-use borrow.Author.Rules.{rules}
 use Rattle.nitro.proofs.container.read_stamp.Goals as goal
 
 -- `nitro::container::read_stamp` meets its contract. Assumes nothing.

@@ -5,7 +5,6 @@ use lib.ListN.{length, drop, length-drop}
 use Rattle.nitro.specs.ContainerCode.{kind_means}
 use Rattle.nitro.specs.EntryCode.{ValueIs}
 use Rattle.nitro.proofs.EntryLaws.{lent, past_end, held_refused, held_whole}
-use borrow.Author.Rules.{rules}
 use Rattle.nitro.proofs.entry.check_at.Goals as goal
 
 -- `nitro::entry::check_at` meets its contract. Assumes nothing.

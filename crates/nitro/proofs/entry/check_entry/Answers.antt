@@ -1,7 +1,6 @@
 use mathlib.Core.Path.{sym}
 use Rattle.nitro.specs.ContainerCode.{kind_means}
 use Rattle.util.proofs.ReadsLaws.{known, stops}
-use borrow.Author.Rules.{rules}
 use Rattle.nitro.proofs.entry.check_entry.Goals as goal
 
 -- `nitro::entry::check_entry` meets its contract. Assumes nothing.

@@ -2,7 +2,6 @@ use mathlib.Core.Path.{sym}
 use mathlib.Core.Path.{ap, ◌∙◌}
 use Rattle.nitro.specs.ContainerCode.{kind_means, stamp_means}
 use Rattle.nitro.proofs.EntryLaws.{open_unstamped, open_other, stamp_same}
-use borrow.Author.Rules.{rules}
 use Rattle.nitro.proofs.entry.open.Goals as goal
 
 -- `nitro::entry::open` meets its contract. Assumes nothing.

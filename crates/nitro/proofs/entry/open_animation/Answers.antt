@@ -3,7 +3,6 @@ use Rattle.util.proofs.ReadsLaws.{known}
 use Rattle.animation.specs.AnimationCode.{AnimationIs}
 use Rattle.nitro.specs.Container.{jnt}
 use Rattle.nitro.proofs.EntryLaws.{lent, value_refused}
-use borrow.Author.Rules.{rules}
 use Rattle.nitro.proofs.entry.open_animation.Goals as goal
 
 -- `nitro::entry::open_animation` meets its contract. Assumes nothing.

@@ -3,7 +3,6 @@ use Rattle.util.proofs.ReadsLaws.{known}
 use Rattle.material_animation.specs.MaterialAnimationCode.{MaterialIs}
 use Rattle.nitro.specs.Container.{srt}
 use Rattle.nitro.proofs.EntryLaws.{lent, value_refused}
-use borrow.Author.Rules.{rules}
 use Rattle.nitro.proofs.entry.open_material.Goals as goal
 
 -- `nitro::entry::open_material` meets its contract. Assumes nothing.

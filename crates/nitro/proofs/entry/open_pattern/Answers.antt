@@ -3,7 +3,6 @@ use Rattle.util.proofs.ReadsLaws.{known}
 use Rattle.pattern.specs.PatternCode.{PatternIs}
 use Rattle.nitro.specs.Container.{pat}
 use Rattle.nitro.proofs.EntryLaws.{lent, value_refused}
-use borrow.Author.Rules.{rules}
 use Rattle.nitro.proofs.entry.open_pattern.Goals as goal
 
 -- `nitro::entry::open_pattern` meets its contract. Assumes nothing.

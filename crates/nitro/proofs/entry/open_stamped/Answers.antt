@@ -2,7 +2,6 @@ use mathlib.Core.Path.{◌∙◌}
 use Rattle.util.proofs.ReadsLaws.{known}
 use Rattle.nitro.specs.ContainerCode.{kind_means}
 use Rattle.nitro.proofs.EntryLaws.{stamped_room, open_run, open_past, open_at}
-use borrow.Author.Rules.{rules}
 use Rattle.nitro.proofs.entry.open_stamped.Goals as goal
 
 -- `nitro::entry::open_stamped` meets its contract. Assumes nothing.

@@ -1,6 +1,5 @@
 use mathlib.Core.Path.{subst}
 use Rattle.animation.specs.AnimationCode.{AnimationIs}
-use borrow.Author.Rules.{rules}
 use Rattle.nitro.proofs.entry.read_jnt.Goals as goal
 
 -- `nitro::entry::read_jnt` meets its contract. Assumes nothing.

@@ -1,7 +1,6 @@
 use mathlib.Core.Path.{subst}
 use Rattle.pattern.specs.PatternCode.{PatternIs}
 use Rattle.pattern.proofs.PatternLaws.{track_count_lem}
-use borrow.Author.Rules.{rules}
 use Rattle.nitro.proofs.entry.read_pat.Goals as goal
 
 -- `nitro::entry::read_pat` meets its contract. Assumes nothing.

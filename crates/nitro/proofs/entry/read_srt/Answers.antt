@@ -1,7 +1,6 @@
 use mathlib.Core.Path.{subst}
 use Rattle.material_animation.specs.MaterialAnimationCode.{MaterialIs}
 use Rattle.material_animation.proofs.MaterialLaws.{track_count_lem}
-use borrow.Author.Rules.{rules}
 use Rattle.nitro.proofs.entry.read_srt.Goals as goal
 
 -- `nitro::entry::read_srt` meets its contract. Assumes nothing.

@@ -2,7 +2,6 @@ use mathlib.Core.Path.{sym, subst}
 use Rattle.nitro.specs.declared.container.Kind.{Kind}
 use Rattle.nitro.specs.ContainerCode.{kind_means}
 use Rattle.nitro.specs.EntryCode.{ValueIs}
-use borrow.Author.Rules.{rules}
 use Rattle.nitro.proofs.entry.read_value.Goals as goal
 
 -- `nitro::entry::read_value` meets its contract. Assumes nothing.

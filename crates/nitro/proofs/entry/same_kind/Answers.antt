@@ -1,4 +1,3 @@
-use borrow.Author.Rules.{rules}
 use Rattle.nitro.proofs.entry.same_kind.Goals as goal
 
 -- `nitro::entry::same_kind` meets its contract. Assumes nothing.
