@@ -1,5 +1,7 @@
 // What the public calls answer: a value, or the number of a refusal. Places count from the section's start. What each call answers to which
 // section is in specs/.
+#![tactic(auto)]
+
 use material_animation::Shift;
 use matrix::Mat4;
 use pattern::{PaletteIdx, TextureIdx};

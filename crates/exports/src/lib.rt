@@ -1,5 +1,7 @@
 // The calls for programs in C and Rust. A slice is passed as a pointer and a length, an array as a pointer. Each call answers document 01's
 // number, 0 where it accepts, and then writes its answer into the arrays that it is lent; a refused call leaves them as they were.
+#![tactic(auto)]
+
 ghost use Rattle.std.specs.Prelude.{List, ◌≡◌, ℕ, length};
 ghost use Rattle.std.proofs.lemmas.List.Edits.{sets};
 ghost use Rattle.util.specs.Reader.{told, number};

@@ -1,4 +1,6 @@
 // The public calls on an object of a JNT0 entry, and on all of them.
+#![tactic(auto)]
+
 mod opened;
 
 ghost use Rattle.std.specs.Prelude.{◌≡◌};

@@ -1,4 +1,6 @@
 // What motion-list prints of a section, as text in a lent array: its kind, how many entries it has, and the lines of each entry.
+#![tactic(auto)]
+
 ghost use Rattle.std.specs.Prelude.{◌++◌, ◌≡◌, ◌+◌, ◌*◌, ◌<◌, ◌≤◌, length, take, drop};
 ghost use Rattle.util.specs.View.{view};
 ghost use Rattle.util.specs.Reader.{run};

@@ -1,4 +1,6 @@
 // The public call on two sections: one answer per material, from an SRT0 entry and a PAT0 entry.
+#![tactic(auto)]
+
 ghost use Rattle.std.specs.Prelude.{List, ◌≡◌, ℕ};
 ghost use Rattle.std.proofs.Math.Option.{Option};
 ghost use Rattle.material_animation.specs.MaterialAnimationCode.{shift_found_means};

@@ -1,5 +1,7 @@
 // The public calls on a section: its kind, the entry check, and finding. Those on an entry of each kind are in jnt, srt and pat. Each public call
 // answers every section, every index and every name, and none asks anything of its caller.
+#![tactic(auto)]
+
 ghost use Rattle.std.specs.Prelude.{◌≡◌};
 ghost use Rattle.util.specs.Reader.{told};
 ghost use Rattle.nitro.specs.ContainerCode.{stamp_means};

@@ -1,5 +1,7 @@
 // A player for a viewer: an entry, a frame and a mode, moved by events. It asks the public calls and nothing below them. Every section, every index and
 // every player is answered, and nothing is kept of a section from one call to the next.
+#![tactic(auto)]
+
 ghost use Rattle.std.specs.Prelude.{List, ◌≡◌, ℕ};
 ghost use Rattle.util.specs.Reader.{answered, and_then};
 ghost use Rattle.nitro.specs.ContainerCode.{kind_means};

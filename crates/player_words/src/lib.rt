@@ -1,4 +1,6 @@
 // A player as the four words that it is for C, and what its answers are written as.
+#![tactic(auto)]
+
 ghost use Rattle.std.specs.Prelude.{cond, ◌≡◌, ◌≤◌, eqb, length};
 ghost use Rattle.std.proofs.Math.Option.{none, some};
 ghost use Rattle.util.specs.Reader.{answered};

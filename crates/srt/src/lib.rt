@@ -1,4 +1,6 @@
 // The public calls on an entry of an SRT0 section.
+#![tactic(auto)]
+
 ghost use Rattle.std.specs.Prelude.{◌≡◌};
 ghost use Rattle.util.specs.Reader.{told};
 ghost use Rattle.info_block.specs.NameCode.{name_answer_means};

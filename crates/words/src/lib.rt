@@ -1,4 +1,6 @@
 // What each answer is written as: words into one array, floats into another, and its number.
+#![tactic(auto)]
+
 ghost use Rattle.std.specs.Prelude.{◌≡◌, List, [], ◌∷◌, Float};
 ghost use Rattle.std.proofs.lemmas.List.Edits.{sets};
 ghost use Rattle.matrix.specs.Matrix.{floats_of};

@@ -1,4 +1,6 @@
 // The public call that writes: a PAT0 section of one entry.
+#![tactic(auto)]
+
 mod check;
 
 ghost use Rattle.pattern_section.specs.Written.{lent};

@@ -1,0 +1,55 @@
+use mathlib.Core.Path.{sym, ap, subst, ◌∙◌}
+use native.Mathlib.Omega.{arith}
+use lib.ListN.{length}
+use Rattle.animation.specs.declared.Triple.{Triple}
+use Rattle.animation.specs.Animation.{translation}
+use Rattle.animation.proofs.ObjectLaws.{triple_inside}
+use Rattle.calls.specs.Calls.{curve, ask_object}
+use Rattle.nitro.proofs.EntryLaws.{onward, onward_end}
+use Rattle.jnt.specs.OpenedCode.{ObjectOpens}
+use Rattle.jnt.proofs.JntLaws.{entry_here, inside_here, told_here}
+use borrow.Author.Rules.{rules}
+use Rattle.jnt.proofs.translation_curve.Goals as goal
+
+-- `jnt::translation_curve` meets its contract. Assumes nothing.
+pub slice_bounds-here-count : goal.slice_bounds-here-count
+slice_bounds-here-count c =
+    let a = c.args in
+    let w = subst (ObjectOpens a.s.now a.entry a.object) c.in-At.is c.open_object.ensures in
+    w.start
+
+pub slice_bounds-here-start : goal.slice_bounds-here-start
+slice_bounds-here-start c =
+    let a = c.args in
+    let w = subst (ObjectOpens a.s.now a.entry a.object) c.in-At.is c.open_object.ensures in
+    let h = w.start in
+    search rules
+
+pub object_at-c-requires : goal.object_at-c-requires
+object_at-c-requires c =
+    let a = c.args in
+    let w = subst (ObjectOpens a.s.now a.entry a.object) c.in-At.is c.open_object.ensures in
+    entry_here a.s.now a.entry a.object _ _ w _ (onward _ a.s.now)
+
+pub record_axis-requires : goal.record_axis-requires
+record_axis-requires c =
+    let a = c.args in
+    let w = subst (ObjectOpens a.s.now a.entry a.object) c.in-At.is c.open_object.ensures in
+    let e = onward c.in-At.off a.s.now in
+    let i = inside_here a.s.now a.entry a.object _ _ w _ e _ c.object_at-c.ensures in
+    let l = onward_end a.s.now c.in-At.off w.start in
+    let n = ap length e in
+    (triple_inside _ _ _ i Triple.Translation, omega (arith, c.well_formed.0))
+
+pub returns-in-Refused : goal.returns-in-Refused
+returns-in-Refused c =
+    let a = c.args in
+    let w = subst (ObjectOpens a.s.now a.entry a.object) c.in-Refused.is c.open_object.ensures in
+    sym (w (curve translation a.axis))
+
+pub returns-in-At : goal.returns-in-At
+unfolding ask_object
+returns-in-At c =
+    let a = c.args in
+    let w = subst (ObjectOpens a.s.now a.entry a.object) c.in-At.is c.open_object.ensures in
+    c.record_axis.ensures ∙ sym (told_here a.s.now a.entry a.object _ _ w _ (onward _ a.s.now) _ c.object_at-c.ensures (curve translation a.axis))

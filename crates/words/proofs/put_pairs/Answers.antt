@@ -1,0 +1,12 @@
+use mathlib.Core.Path.{refl}
+use Rattle.words.proofs.put_pairs.Goals as goal
+
+-- `words::put_pairs` meets its contract. Assumes nothing.
+pub returns-in-None : goal.returns-in-None
+returns-in-None c = rw c.in-None.is (refl, refl)
+
+pub returns-in-Constant : goal.returns-in-Constant
+returns-in-Constant c = rw c.in-Constant.is (refl, c.put_two.ensures)
+
+pub returns-in-List : goal.returns-in-List
+returns-in-List c = rw c.in-List.is (c.put_samples.ensures, refl)
