@@ -9,11 +9,12 @@ use Rattle.util.specs.Reader.{done, accepted, refused, run, answered, denied}
 use Rattle.util.proofs.Calls.{accepted_first, refused_first}
 use Rattle.util.proofs.Cut.{cut}
 use Rattle.util.proofs.ReadsLaws.{stops}
-use Rattle.nitro.specs.Container.{Kind, kind_of, entry, EntryRecord, record_of, entry_of}
+use Rattle.nitro.specs.Container.{Kind, all_kinds, kind_of, stamped, entry, EntryRecord, record_of, entry_of}
 use Rattle.nitro.proofs.ContainerLaws.{taken, stamp_of_lem, stamp_refused, stamp_none}
 use Rattle.nitro.proofs.EntryLaws.{open_run}
 use Rattle.calls.specs.Calls.{Query, Call, kind, check, find, on, reader, answer}
-use Rattle.calls.specs.Kinds.{Refuses, unstamped, another, checked, Kinds}
+use Rattle.calls.specs.OneAnswer.{Refuses, unstamped, another, checked}
+use Rattle.calls.specs.Kinds.{Kinds}
 use Rattle.calls.proofs.CallsLaws.{check_unstamped, check_stamped, find_unstamped}
 
 -- the entry is refused before anything is asked of it
@@ -37,11 +38,14 @@ kinds s = record { told_by = told_by; no_kind = no_kind; refuses = refuses; shor
     refuses : (k : Kind) (i n : ℕ) → Refuses k s i n → (q : Query k) → answer (on k i q) s ≡ refused n
     refuses k i n d q = unfold answer reader in stops _ _ _ _ n (entry_refused k s i n d)
 
+    stampless : (n : ℕ) → answer kind s ≡ refused n → run (stamped all_kinds) s 0 ≡ refused n
+    stampless n e = unfold answer reader in e
+
     no_kind : (n : ℕ) → answer kind s ≡ refused n → (c : Call) → answer c s ≡ refused n
     no_kind n e kind = e
     no_kind n e (check i) = unfold answer reader in check_unstamped s i n e
     no_kind n e (find name) = unfold answer reader in find_unstamped s name n e
-    no_kind n e (on k i q) = refuses k i n (unstamped e) q
+    no_kind n e (on k i q) = refuses k i n (unstamped (stampless n e)) q
 
     short : (k : Kind) → answer kind s ≡ accepted 4 k → (i r : ℕ) (e : EntryRecord) → answer (check i) s ≡ accepted r e → (c : ℕ) → c < r → (q : Query k) → answer (on k i q) (take c s) ≡ refused 2
     short k a i r e h c l q =

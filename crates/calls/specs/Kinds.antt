@@ -3,12 +3,7 @@ use Rattle.std.specs.Prelude.{ℕ, ◌<◌, List, ◌≡◌, take}
 use Rattle.util.specs.Reader.{accepted, refused}
 use Rattle.nitro.specs.Container.{Kind, EntryRecord}
 use Rattle.calls.specs.Calls.{Query, Call, kind, check, on, answer}
-
--- a call that takes the kind k refuses a section, or entry i of it, with n: it has no kind, or another, or the check refuses the entry
-pub data Refuses (k : Kind) (s : List ℕ) (i n : ℕ) : Type 0 where
-  unstamped : answer kind s ≡ refused n → Refuses k s i n
-  another : (other : Kind) → answer kind s ≡ accepted 4 other → (other ≡ k → ⊥) → n ≡ 1 → Refuses k s i n
-  checked : answer kind s ≡ accepted 4 k → answer (check i) s ≡ refused n → Refuses k s i n
+use Rattle.calls.specs.OneAnswer.{Refuses}
 
 pub record Kinds (s : List ℕ) : Type 0 where
   -- it is told by the first four bytes

@@ -2,13 +2,12 @@
 -- name and every frame. Assumes nothing.
 use Rattle.std.specs.Prelude.{ℕ, List, ◌≡◌}
 use Rattle.std.proofs.Math.Option.{none, some}
-use Rattle.util.specs.Reader.{accepted, run, Verdict, answered, denied, told, and_then}
+use Rattle.util.specs.Reader.{accepted, refused, run, Verdict, answered, denied, told, and_then}
 use Rattle.matrix.specs.declared.Mat4.{Mat4}
 use Rattle.info_block.specs.Name.{Name, Named, Lowest}
 use Rattle.material_animation.specs.MaterialAnimation.{Shift}
-use Rattle.nitro.specs.Container.{srt, pat, Entry, EntryRecord, entry_of}
-use Rattle.calls.specs.Calls.{Chosen, of_material, uv_matrix, of_pattern, chosen, kind, check, on, answer}
-use Rattle.calls.specs.Kinds.{Refuses}
+use Rattle.nitro.specs.Container.{Kind, srt, pat, all_kinds, stamped, Entry, EntryRecord, entry_of}
+use Rattle.calls.specs.Calls.{Chosen, of_material, uv_matrix, of_pattern, chosen, check, on, answer}
 use Rattle.calls.specs.Material.{no_shift, material}
 
 -- what the calls on a track answer
@@ -39,8 +38,14 @@ pub record OneAnswer (s : List ℕ) (i m : ℕ) (a : Entry srt) (read_a : run (e
 
 -- ---- which refusal it gives
 
+-- a call that takes the kind k refuses a section, or entry i of it, with n: it has no stamp, or another kind's, or the check refuses the entry
+pub data Refuses (k : Kind) (s : List ℕ) (i n : ℕ) : Type 0 where
+  unstamped : run (stamped all_kinds) s 0 ≡ refused n → Refuses k s i n
+  another : (other : Kind) → run (stamped all_kinds) s 0 ≡ accepted 4 other → (other ≡ k → ⊥) → n ≡ 1 → Refuses k s i n
+  checked : run (stamped all_kinds) s 0 ≡ accepted 4 k → answer (check i) s ≡ refused n → Refuses k s i n
+
 -- proved for every two sections, in the same place
 pub record InOrder (s : List ℕ) (i : ℕ) (p : List ℕ) (j : ℕ) (name : Name) (frame : ℕ) : Type 0 where
   -- the SRT0 section's refusal comes first, whatever the other section is; then the PAT0 section's
   pub srt_first : (n : ℕ) → Refuses srt s i n → material i j name frame s p ≡ denied n
-  pub pat_next : (m : ℕ) (e : EntryRecord) → answer kind s ≡ accepted 4 srt → answer (check i) s ≡ accepted m e → (n : ℕ) → Refuses pat p j n → material i j name frame s p ≡ denied n
+  pub pat_next : (m : ℕ) (e : EntryRecord) → run (stamped all_kinds) s 0 ≡ accepted 4 srt → answer (check i) s ≡ accepted m e → (n : ℕ) → Refuses pat p j n → material i j name frame s p ≡ denied n

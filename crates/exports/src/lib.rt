@@ -37,16 +37,14 @@ use words::{
 use writing::write_pattern;
 
 // The kind of a section: 0 for JNT0, 1 for SRT0, 2 for PAT0.
-#[unsafe(no_mangle)]
-pub extern "C" fn motion_kind(s: &[u8], out: &mut [u64; 1]) -> u32
+pub fn motion_kind(s: &[u8], out: &mut [u64; 1]) -> u32
     ensures { Writes kind_words (told (answer calls.kind s.now)) result out.old out.new }
 {
     put_kind(kind(s), out)
 }
 
 // Whether an entry is whole: the number of its check.
-#[unsafe(no_mangle)]
-pub extern "C" fn motion_check(s: &[u8], entry: usize) -> u32
+pub fn motion_check(s: &[u8], entry: usize) -> u32
     ensures { result ≡ number (told (answer (calls.check entry) s.now)) }
 {
     match check(s, entry) {
@@ -57,14 +55,7 @@ pub extern "C" fn motion_check(s: &[u8], entry: usize) -> u32
 
 // The matrix of a JNT0 object at a frame into the first 128 bytes of `out`: sixteen floats, column by column, eight little-endian bytes
 // each. The rest of `out` keeps its contents, and so does all of it where the call refuses.
-#[unsafe(no_mangle)]
-pub extern "C" fn motion_matrix(
-    s: &[u8],
-    entry: usize,
-    object: usize,
-    frame: u16,
-    out: &mut [u8],
-) -> u32
+pub fn motion_matrix(s: &[u8], entry: usize, object: usize, frame: u16, out: &mut [u8]) -> u32
     ensures { (result ≡ number (told (answer (on jnt entry (of_object object (matrix_bytes frame out.old))) s.now))) × (out.new ≡ bytes_after out.old (told (answer (on jnt entry (of_object object (matrix_bytes frame out.old))) s.now))) }
 {
     match jnt::matrix(s, entry, object, frame) {
@@ -81,8 +72,7 @@ pub extern "C" fn motion_matrix(
 
 // The matrices of all objects of a JNT0 entry at a frame, from the start of `out`: sixteen floats each, column by column; and how many objects
 // there are. What stands behind them in `out` keeps its contents, and so does all of it where the call refuses.
-#[unsafe(no_mangle)]
-pub extern "C" fn motion_pose(
+pub fn motion_pose(
     s: &[u8],
     entry: usize,
     frame: u16,
@@ -95,8 +85,7 @@ pub extern "C" fn motion_pose(
 }
 
 // Likewise at so many frames from `first` on, one pose after the other.
-#[unsafe(no_mangle)]
-pub extern "C" fn motion_clip(
+pub fn motion_clip(
     s: &[u8],
     entry: usize,
     first: u16,
@@ -110,24 +99,21 @@ pub extern "C" fn motion_clip(
 }
 
 // The record of an entry: the two words of its name, its reach, its frames, and how many objects or tracks it has.
-#[unsafe(no_mangle)]
-pub extern "C" fn motion_record(s: &[u8], entry: usize, out: &mut [u64; 5]) -> u32
+pub fn motion_record(s: &[u8], entry: usize, out: &mut [u64; 5]) -> u32
     ensures { Writes record_words (checked (answer (calls.check entry) s.now)) result out.old out.new }
 {
     put_record(check(s, entry), out)
 }
 
 // The earliest entry with this name: 1 and its index, or 0 if there is none.
-#[unsafe(no_mangle)]
-pub extern "C" fn motion_find(s: &[u8], name: &[u8; 16], out: &mut [u64; 2]) -> u32
+pub fn motion_find(s: &[u8], name: &[u8; 16], out: &mut [u64; 2]) -> u32
     ensures { Writes found_words (told (answer (calls.find name.now) s.now)) result out.old out.new }
 {
     put_found(find(s, name), out)
 }
 
 // A curve of a JNT0 object: 0 for none, 1 for a constant, whose value goes to `value`, or 2 and the list's start, end, place, length and bytes per value.
-#[unsafe(no_mangle)]
-pub extern "C" fn motion_translation_curve(
+pub fn motion_translation_curve(
     s: &[u8],
     entry: usize,
     object: usize,
@@ -141,8 +127,7 @@ pub extern "C" fn motion_translation_curve(
 }
 
 // Likewise its rotation; a constant has nine floats, column by column.
-#[unsafe(no_mangle)]
-pub extern "C" fn motion_rotation_curve(
+pub fn motion_rotation_curve(
     s: &[u8],
     entry: usize,
     object: usize,
@@ -155,8 +140,7 @@ pub extern "C" fn motion_rotation_curve(
 }
 
 // Likewise its scale; a constant has two floats, its first and its second number.
-#[unsafe(no_mangle)]
-pub extern "C" fn motion_scale_curve(
+pub fn motion_scale_curve(
     s: &[u8],
     entry: usize,
     object: usize,
@@ -170,8 +154,7 @@ pub extern "C" fn motion_scale_curve(
 }
 
 // One value of a JNT0 object's scale: its first and its second number. The index counts the values that the curve stores; a constant has one.
-#[unsafe(no_mangle)]
-pub extern "C" fn motion_scale_value(
+pub fn motion_scale_value(
     s: &[u8],
     entry: usize,
     object: usize,
@@ -185,8 +168,7 @@ pub extern "C" fn motion_scale_value(
 }
 
 // Likewise a channel of an SRT0 track.
-#[unsafe(no_mangle)]
-pub extern "C" fn motion_channel_curve(
+pub fn motion_channel_curve(
     s: &[u8],
     entry: usize,
     track: usize,
@@ -200,8 +182,7 @@ pub extern "C" fn motion_channel_curve(
 }
 
 // The matrix of an SRT0 track at a frame: sixteen floats, column by column.
-#[unsafe(no_mangle)]
-pub extern "C" fn motion_uv_matrix(
+pub fn motion_uv_matrix(
     s: &[u8],
     entry: usize,
     track: usize,
@@ -214,64 +195,42 @@ pub extern "C" fn motion_uv_matrix(
 }
 
 // The two words of an SRT0 track's name.
-#[unsafe(no_mangle)]
-pub extern "C" fn motion_material_name(
-    s: &[u8],
-    entry: usize,
-    track: usize,
-    out: &mut [u64; 2],
-) -> u32
+pub fn motion_material_name(s: &[u8], entry: usize, track: usize, out: &mut [u64; 2]) -> u32
     ensures { Writes name_words (told (answer (on srt entry (material_name track)) s.now)) result out.old out.new }
 {
     put_name(srt::track_name(s, entry, track), out)
 }
 
 // The two words of a PAT0 track's name.
-#[unsafe(no_mangle)]
-pub extern "C" fn motion_pattern_name(
-    s: &[u8],
-    entry: usize,
-    track: usize,
-    out: &mut [u64; 2],
-) -> u32
+pub fn motion_pattern_name(s: &[u8], entry: usize, track: usize, out: &mut [u64; 2]) -> u32
     ensures { Writes name_words (told (answer (on pat entry (pattern_name track)) s.now)) result out.old out.new }
 {
     put_name(pat::track_name(s, entry, track), out)
 }
 
 // The place and the length of a PAT0 entry's texture names.
-#[unsafe(no_mangle)]
-pub extern "C" fn motion_texture_names(s: &[u8], entry: usize, out: &mut [u64; 2]) -> u32
+pub fn motion_texture_names(s: &[u8], entry: usize, out: &mut [u64; 2]) -> u32
     ensures { Writes listed_words (told (answer (on pat entry texture_names) s.now)) result out.old out.new }
 {
     put_list(pat::texture_names(s, entry), out)
 }
 
 // Likewise of its palette names.
-#[unsafe(no_mangle)]
-pub extern "C" fn motion_palette_names(s: &[u8], entry: usize, out: &mut [u64; 2]) -> u32
+pub fn motion_palette_names(s: &[u8], entry: usize, out: &mut [u64; 2]) -> u32
     ensures { Writes listed_words (told (answer (on pat entry palette_names) s.now)) result out.old out.new }
 {
     put_list(pat::palette_names(s, entry), out)
 }
 
 // Likewise of a track's keys.
-#[unsafe(no_mangle)]
-pub extern "C" fn motion_keys(s: &[u8], entry: usize, track: usize, out: &mut [u64; 2]) -> u32
+pub fn motion_keys(s: &[u8], entry: usize, track: usize, out: &mut [u64; 2]) -> u32
     ensures { Writes listed_words (told (answer (on pat entry (of_pattern track calls.keys)) s.now)) result out.old out.new }
 {
     put_list(pat::keys(s, entry, track), out)
 }
 
 // The texture and the palette of a PAT0 track at a frame.
-#[unsafe(no_mangle)]
-pub extern "C" fn motion_choice(
-    s: &[u8],
-    entry: usize,
-    track: usize,
-    frame: u16,
-    out: &mut [u64; 2],
-) -> u32
+pub fn motion_choice(s: &[u8], entry: usize, track: usize, frame: u16, out: &mut [u64; 2]) -> u32
     ensures { Writes chosen_words (told (answer (on pat entry (of_pattern track (chosen frame))) s.now)) result out.old out.new }
 {
     put_choice(pat::choice(s, entry, track, frame), out)
@@ -279,8 +238,7 @@ pub extern "C" fn motion_choice(
 
 // A material of this name at a frame, from an SRT0 entry and a PAT0 entry: the shift of its texture, u and v; and 1 and the indexes of its texture and its
 // palette, or 0 if nothing chooses them.
-#[unsafe(no_mangle)]
-pub extern "C" fn motion_material(
+pub fn motion_material(
     srt: &[u8],
     srt_entry: usize,
     pat: &[u8],
@@ -301,8 +259,7 @@ pub extern "C" fn motion_material(
 
 // An entry is picked: a player is four words, and any four are one. They are whether an entry is picked, the entry, the frame in the low sixteen bits,
 // and whether it loops.
-#[unsafe(no_mangle)]
-pub extern "C" fn motion_player_pick(s: &[u8], player: &mut [u64; 4], entry: usize) -> u32
+pub fn motion_player_pick(s: &[u8], player: &mut [u64; 4], entry: usize) -> u32
     ensures { Moves s.now (machine.pick entry) result player.old player.new }
 {
     let p = player_of(player);
@@ -310,8 +267,7 @@ pub extern "C" fn motion_player_pick(s: &[u8], player: &mut [u64; 4], entry: usi
 }
 
 // One tick of the entry that was picked.
-#[unsafe(no_mangle)]
-pub extern "C" fn motion_player_tick(s: &[u8], player: &mut [u64; 4]) -> u32
+pub fn motion_player_tick(s: &[u8], player: &mut [u64; 4]) -> u32
     ensures { Moves s.now machine.tick result player.old player.new }
 {
     let p = player_of(player);
@@ -319,16 +275,14 @@ pub extern "C" fn motion_player_tick(s: &[u8], player: &mut [u64; 4]) -> u32
 }
 
 // The mode is set: 0 for hold, any other number for loop. It is never refused.
-#[unsafe(no_mangle)]
-pub extern "C" fn motion_player_mode(player: &mut [u64; 4], loops: u32) -> u32
+pub fn motion_player_mode(player: &mut [u64; 4], loops: u32) -> u32
     ensures { (s : List ℕ) → Moves s (machine.set (mode_of loops)) result player.old player.new }
 {
     put_mode(mode_of(loops as u64), player)
 }
 
 // What a player shows of an object or a track: 1, and sixteen floats, column by column; or 2, and the indexes of a texture and a palette.
-#[unsafe(no_mangle)]
-pub extern "C" fn motion_player_picture(
+pub fn motion_player_picture(
     s: &[u8],
     player: &[u64; 4],
     index: usize,
@@ -343,8 +297,7 @@ pub extern "C" fn motion_player_picture(
 
 // A PAT0 section of one entry, written from the start of `out`: how many bytes it has. What stands behind it in `out` keeps its contents, and so
 // does all of it where the call refuses. Lists are bytes: 16 a name, 20 a track (its name, and how many keys it has), 4 a key, track by track.
-#[unsafe(no_mangle)]
-pub extern "C" fn motion_write_pattern(
+pub fn motion_write_pattern(
     name: &[u8; 16],
     frames: u16,
     textures: &[u8],
@@ -364,8 +317,7 @@ pub extern "C" fn motion_write_pattern(
 
 // A JNT0 object's translation, resampled into `floats` from a place onward: 1, the start, the end and how many frames were written, or 0 for
 // three missing curves.
-#[unsafe(no_mangle)]
-pub extern "C" fn motion_resample_translation(
+pub fn motion_resample_translation(
     s: &[u8],
     entry: usize,
     object: usize,
@@ -382,8 +334,7 @@ pub extern "C" fn motion_resample_translation(
 }
 
 // Likewise its scale.
-#[unsafe(no_mangle)]
-pub extern "C" fn motion_resample_scale(
+pub fn motion_resample_scale(
     s: &[u8],
     entry: usize,
     object: usize,
@@ -400,8 +351,7 @@ pub extern "C" fn motion_resample_scale(
 }
 
 // The listing of a section, as motion-list prints it; answers how many bytes it has.
-#[unsafe(no_mangle)]
-pub extern "C" fn motion_list(s: &[u8], out: &mut [u8; ROOM]) -> usize
+pub fn motion_list(s: &[u8], out: &mut [u8; ROOM]) -> usize
     ensures { (result ≡ length (listing s.now)) × (out.new ≡ sets out.old 0 (listing s.now)) }
 {
     list_section(s, out)

@@ -7,47 +7,56 @@
 // place of an object or track and the entry of the second in that of an axis or channel. In the place of a section that is to be written stand its
 // lists as one, with the lengths of the first three in those of an object or track, of an axis or channel, and of a place. A player's four words stand
 // in the place of a name, four bytes each.
+#![tactic(auto)]
+
 mod print;
 mod stored;
 
-use libc::STDIN_FILENO;
+use std::io;
+use std::io::{BufWriter, Read, Write};
 use stored::run;
 use util::view::{word16, word32};
 
+// More than the longest list has.
+const MOST: u64 = 524288;
+
 // The call at `at`; one that the list does not hold is passed over.
-fn run_call(list: &[u8], at: usize) {
+fn run_call<W: Write>(to: &mut W, list: &[u8], at: usize) -> io::Result<()> {
     if list.len() < at {
-        return;
+        return Ok(());
     }
     if list.len() - at < 33 {
-        return;
+        return Ok(());
     }
     let start = word32(list, at + 25) as usize;
     let length = word32(list, at + 29) as usize;
     if list.len() < start {
-        return;
+        return Ok(());
     }
     if list.len() - start < length {
-        return;
+        return Ok(());
     }
-    run(&list[start..start + length], &list[at..]);
+    run(to, &list[start..start + length], &list[at..])
 }
 
-fn run_calls(list: &[u8], calls: u16) {
+fn run_calls<W: Write>(to: &mut W, list: &[u8], calls: u16) -> io::Result<()> {
     for i in 0..calls {
-        run_call(list, 2 + 33 * (i as usize));
+        run_call(to, list, 2 + 33 * (i as usize))?;
     }
+    Ok(())
 }
 
-fn run_list(list: &[u8]) {
+fn run_list<W: Write>(to: &mut W, list: &[u8]) -> io::Result<()> {
     if list.len() < 2 {
-        return;
+        return Ok(());
     }
-    run_calls(list, word16(list, 0));
+    run_calls(to, list, word16(list, 0))
 }
 
-fn main() {
-    let mut list = [0u8; 524288];
-    let n = io::read_full(STDIN_FILENO, &mut list);
-    run_list(&list[..n]);
+fn main(rt: HostRuntime) -> io::Result<()> {
+    let mut list = Vec::new(rt.alloc());
+    rt.stdin().lock().take(MOST).read_to_end(&mut list)?;
+    let mut to = BufWriter::new(rt.alloc(), rt.stdout())?;
+    run_list(&mut to, &list)?;
+    to.flush()
 }

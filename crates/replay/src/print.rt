@@ -1,10 +1,9 @@
 // A line of what a call answered.
-use io::{print_hex, write_all};
-use libc::STDOUT_FILENO;
+use std::io;
+use std::io::Write;
 
-fn print_word(word: u64) {
-    write_all(STDOUT_FILENO, b" ");
-    print_hex(STDOUT_FILENO, word, 16);
+fn print_word<W: Write>(to: &mut W, word: u64) -> io::Result<()> {
+    write!(to, " {word:016x}")
 }
 
 // A float's bits; a NaN, whose bits are not fixed, is 0.
@@ -12,38 +11,46 @@ fn bits(x: f64) -> u64 {
     if x == x { f64::to_bits(x) } else { 0 }
 }
 
-fn print_words(words: &[u64]) {
-    for i in 0..words.len() {
-        print_word(words[i]);
+fn print_words<W: Write>(to: &mut W, words: &[u64]) -> io::Result<()> {
+    for word in words {
+        print_word(to, *word)?;
     }
+    Ok(())
 }
 
-fn print_float(x: f64) {
-    print_word(bits(x));
+fn print_float<W: Write>(to: &mut W, x: f64) -> io::Result<()> {
+    print_word(to, bits(x))
 }
 
-fn print_floats(floats: &[f64]) {
-    for i in 0..floats.len() {
-        print_float(floats[i]);
+fn print_floats<W: Write>(to: &mut W, floats: &[f64]) -> io::Result<()> {
+    for x in floats {
+        print_float(to, *x)?;
     }
+    Ok(())
 }
 
-fn print_byte(byte: u8) {
-    write_all(STDOUT_FILENO, b" ");
-    print_hex(STDOUT_FILENO, byte as u64, 2);
+fn print_byte<W: Write>(to: &mut W, byte: u8) -> io::Result<()> {
+    write!(to, " {byte:02x}")
 }
 
-fn print_bytes(bytes: &[u8]) {
-    for i in 0..bytes.len() {
-        print_byte(bytes[i]);
+fn print_bytes<W: Write>(to: &mut W, bytes: &[u8]) -> io::Result<()> {
+    for byte in bytes {
+        print_byte(to, *byte)?;
     }
+    Ok(())
 }
 
 // The number, every word and the bits of every float, sixteen hex digits each, and two digits for every byte.
-pub fn print(n: u32, words: &[u64], floats: &[f64], bytes: &[u8]) {
-    print_hex(STDOUT_FILENO, n as u64, 16);
-    print_words(words);
-    print_floats(floats);
-    print_bytes(bytes);
-    write_all(STDOUT_FILENO, b"\n");
+pub fn print<W: Write>(
+    to: &mut W,
+    n: u32,
+    words: &[u64],
+    floats: &[f64],
+    bytes: &[u8],
+) -> io::Result<()> {
+    write!(to, "{n:016x}")?;
+    print_words(to, words)?;
+    print_floats(to, floats)?;
+    print_bytes(to, bytes)?;
+    to.write_all(b"\n")
 }

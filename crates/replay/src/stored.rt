@@ -10,6 +10,8 @@ use exports::{
     motion_resample_translation, motion_rotation_curve, motion_scale_curve, motion_scale_value,
     motion_texture_names, motion_translation_curve, motion_uv_matrix, motion_write_pattern,
 };
+use std::io;
+use std::io::Write;
 use util::view::{word16, word32};
 use words::CURVE_WORDS;
 
@@ -87,24 +89,24 @@ fn two(s: &[u8], c: Call, out: &mut [u64; 2]) -> u32 {
     }
 }
 
-fn print_two(n: u32, out: &[u64; 2]) {
-    print(n, out, &[], &[]);
+fn print_two<W: Write>(to: &mut W, n: u32, out: &[u64; 2]) -> io::Result<()> {
+    print(to, n, out, &[], &[])
 }
 
-fn run_two(s: &[u8], c: Call) {
+fn run_two<W: Write>(to: &mut W, s: &[u8], c: Call) -> io::Result<()> {
     let mut out = [WORD; 2];
     let n = two(s, c, &mut out);
-    print_two(n, &out);
+    print_two(to, n, &out)
 }
 
-fn print_record(n: u32, out: &[u64; 5]) {
-    print(n, out, &[], &[]);
+fn print_record<W: Write>(to: &mut W, n: u32, out: &[u64; 5]) -> io::Result<()> {
+    print(to, n, out, &[], &[])
 }
 
-fn run_record(s: &[u8], c: Call) {
+fn run_record<W: Write>(to: &mut W, s: &[u8], c: Call) -> io::Result<()> {
     let mut out = [WORD; 5];
     let n = motion_record(s, c.entry, &mut out);
-    print_record(n, &out);
+    print_record(to, n, &out)
 }
 
 fn curve(s: &[u8], c: Call, out: &mut [u64; CURVE_WORDS], value: &mut [f64; 1]) -> u32 {
@@ -115,57 +117,72 @@ fn curve(s: &[u8], c: Call, out: &mut [u64; CURVE_WORDS], value: &mut [f64; 1]) 
     }
 }
 
-fn print_curve(n: u32, out: &[u64; CURVE_WORDS], value: &[f64; 1]) {
-    print(n, out, value, &[]);
+fn print_curve<W: Write>(
+    to: &mut W,
+    n: u32,
+    out: &[u64; CURVE_WORDS],
+    value: &[f64; 1],
+) -> io::Result<()> {
+    print(to, n, out, value, &[])
 }
 
-fn run_curve(s: &[u8], c: Call) {
+fn run_curve<W: Write>(to: &mut W, s: &[u8], c: Call) -> io::Result<()> {
     let mut out = [WORD; CURVE_WORDS];
     let mut value = [FLOAT; 1];
     let n = curve(s, c, &mut out, &mut value);
-    print_curve(n, &out, &value);
+    print_curve(to, n, &out, &value)
 }
 
-fn print_scale(n: u32, out: &[u64; CURVE_WORDS], value: &[f64; 2]) {
-    print(n, out, value, &[]);
+fn print_scale<W: Write>(
+    to: &mut W,
+    n: u32,
+    out: &[u64; CURVE_WORDS],
+    value: &[f64; 2],
+) -> io::Result<()> {
+    print(to, n, out, value, &[])
 }
 
-fn run_scale(s: &[u8], c: Call) {
+fn run_scale<W: Write>(to: &mut W, s: &[u8], c: Call) -> io::Result<()> {
     let mut out = [WORD; CURVE_WORDS];
     let mut value = [FLOAT; 2];
     let n = motion_scale_curve(s, c.entry, c.index, c.part, &mut out, &mut value);
-    print_scale(n, &out, &value);
+    print_scale(to, n, &out, &value)
 }
 
-fn print_scale_value(n: u32, out: &[f64; 2]) {
-    print(n, &[], out, &[]);
+fn print_scale_value<W: Write>(to: &mut W, n: u32, out: &[f64; 2]) -> io::Result<()> {
+    print(to, n, &[], out, &[])
 }
 
-fn run_scale_value(s: &[u8], c: Call) {
+fn run_scale_value<W: Write>(to: &mut W, s: &[u8], c: Call) -> io::Result<()> {
     let mut out = [FLOAT; 2];
     let n = motion_scale_value(s, c.entry, c.index, c.part, c.place, &mut out);
-    print_scale_value(n, &out);
+    print_scale_value(to, n, &out)
 }
 
-fn print_rotation(n: u32, out: &[u64; CURVE_WORDS], value: &[f64; 9]) {
-    print(n, out, value, &[]);
+fn print_rotation<W: Write>(
+    to: &mut W,
+    n: u32,
+    out: &[u64; CURVE_WORDS],
+    value: &[f64; 9],
+) -> io::Result<()> {
+    print(to, n, out, value, &[])
 }
 
-fn run_rotation(s: &[u8], c: Call) {
+fn run_rotation<W: Write>(to: &mut W, s: &[u8], c: Call) -> io::Result<()> {
     let mut out = [WORD; CURVE_WORDS];
     let mut value = [FLOAT; 9];
     let n = motion_rotation_curve(s, c.entry, c.index, &mut out, &mut value);
-    print_rotation(n, &out, &value);
+    print_rotation(to, n, &out, &value)
 }
 
-fn print_uv(n: u32, out: &[f64; 16]) {
-    print(n, &[], out, &[]);
+fn print_uv<W: Write>(to: &mut W, n: u32, out: &[f64; 16]) -> io::Result<()> {
+    print(to, n, &[], out, &[])
 }
 
-fn run_uv(s: &[u8], c: Call) {
+fn run_uv<W: Write>(to: &mut W, s: &[u8], c: Call) -> io::Result<()> {
     let mut out = [FLOAT; 16];
     let n = motion_uv_matrix(s, c.entry, c.index, c.frame, &mut out);
-    print_uv(n, &out);
+    print_uv(to, n, &out)
 }
 
 fn resampling(s: &[u8], c: Call, floats: &mut [f64], out: &mut [u64; 4]) -> u32 {
@@ -177,15 +194,20 @@ fn resampling(s: &[u8], c: Call, floats: &mut [f64], out: &mut [u64; 4]) -> u32 
     }
 }
 
-fn print_resampling(n: u32, out: &[u64; 4], floats: &[f64; 40]) {
-    print(n, out, floats, &[]);
+fn print_resampling<W: Write>(
+    to: &mut W,
+    n: u32,
+    out: &[u64; 4],
+    floats: &[f64; 40],
+) -> io::Result<()> {
+    print(to, n, out, floats, &[])
 }
 
-fn run_resampling(s: &[u8], c: Call) {
+fn run_resampling<W: Write>(to: &mut W, s: &[u8], c: Call) -> io::Result<()> {
     let mut out = [WORD; 4];
     let mut floats = [FLOAT; 40];
     let n = resampling(s, c, &mut floats, &mut out);
-    print_resampling(n, &out, &floats);
+    print_resampling(to, n, &out, &floats)
 }
 
 fn matrix(s: &[u8], c: Call, out: &mut [u8]) -> u32 {
@@ -193,14 +215,14 @@ fn matrix(s: &[u8], c: Call, out: &mut [u8]) -> u32 {
     motion_matrix(s, c.entry, c.index, c.frame, &mut out[0..room])
 }
 
-fn print_matrix(n: u32, out: &[u8; 140]) {
-    print(n, &[], &[], out);
+fn print_matrix<W: Write>(to: &mut W, n: u32, out: &[u8; 140]) -> io::Result<()> {
+    print(to, n, &[], &[], out)
 }
 
-fn run_matrix(s: &[u8], c: Call) {
+fn run_matrix<W: Write>(to: &mut W, s: &[u8], c: Call) -> io::Result<()> {
     let mut out = [BYTE; 140];
     let n = matrix(s, c, &mut out);
-    print_matrix(n, &out);
+    print_matrix(to, n, &out)
 }
 
 // A material of two sections, one behind the other: `index` is the length of the first, `part` the entry of the second.
@@ -219,15 +241,20 @@ fn material(both: &[u8], c: Call, shift: &mut [f64; 2], choice: &mut [u64; 3]) -
     )
 }
 
-fn print_material(n: u32, shift: &[f64; 2], choice: &[u64; 3]) {
-    print(n, choice, shift, &[]);
+fn print_material<W: Write>(
+    to: &mut W,
+    n: u32,
+    shift: &[f64; 2],
+    choice: &[u64; 3],
+) -> io::Result<()> {
+    print(to, n, choice, shift, &[])
 }
 
-fn run_material(both: &[u8], c: Call) {
+fn run_material<W: Write>(to: &mut W, both: &[u8], c: Call) -> io::Result<()> {
     let mut shift = [FLOAT; 2];
     let mut choice = [WORD; 3];
     let n = material(both, c, &mut shift, &mut choice);
-    print_material(n, &shift, &choice);
+    print_material(to, n, &shift, &choice)
 }
 
 // A section that is written of four lists, one behind the other: `index` is the length of the texture names, `part` that of the palette names,
@@ -252,15 +279,20 @@ fn written(lists: &[u8], c: Call, out: &mut [u8], count: &mut [u64; 1]) -> u32 {
     )
 }
 
-fn print_written(n: u32, count: &[u64; 1], out: &[u8; 240]) {
-    print(n, count, &[], out);
+fn print_written<W: Write>(
+    to: &mut W,
+    n: u32,
+    count: &[u64; 1],
+    out: &[u8; 240],
+) -> io::Result<()> {
+    print(to, n, count, &[], out)
 }
 
-fn run_written(lists: &[u8], c: Call) {
+fn run_written<W: Write>(to: &mut W, lists: &[u8], c: Call) -> io::Result<()> {
     let mut out = [BYTE; 240];
     let mut count = [WORD; 1];
     let n = written(lists, c, &mut out, &mut count);
-    print_written(n, &count, &out);
+    print_written(to, n, &count, &out)
 }
 
 // A pose, or a clip of `index` frames.
@@ -273,25 +305,30 @@ fn posing(s: &[u8], c: Call, floats: &mut [f64], objects: &mut [u64; 1]) -> u32 
     }
 }
 
-fn print_posing(n: u32, objects: &[u64; 1], floats: &[f64; 100]) {
-    print(n, objects, floats, &[]);
+fn print_posing<W: Write>(
+    to: &mut W,
+    n: u32,
+    objects: &[u64; 1],
+    floats: &[f64; 100],
+) -> io::Result<()> {
+    print(to, n, objects, floats, &[])
 }
 
-fn run_posing(s: &[u8], c: Call) {
+fn run_posing<W: Write>(to: &mut W, s: &[u8], c: Call) -> io::Result<()> {
     let mut objects = [WORD; 1];
     let mut floats = [FLOAT; 100];
     let n = posing(s, c, &mut floats, &mut objects);
-    print_posing(n, &objects, &floats);
+    print_posing(to, n, &objects, &floats)
 }
 
-fn print_kind(n: u32, out: &[u64; 1]) {
-    print(n, out, &[], &[]);
+fn print_kind<W: Write>(to: &mut W, n: u32, out: &[u64; 1]) -> io::Result<()> {
+    print(to, n, out, &[], &[])
 }
 
-fn run_kind(s: &[u8]) {
+fn run_kind<W: Write>(to: &mut W, s: &[u8]) -> io::Result<()> {
     let mut out = [WORD; 1];
     let n = motion_kind(s, &mut out);
-    print_kind(n, &out);
+    print_kind(to, n, &out)
 }
 
 // An event: for a mode `index` is whether it loops.
@@ -304,50 +341,55 @@ fn moved(s: &[u8], c: Call, player: &mut [u64; 4]) -> u32 {
     }
 }
 
-fn print_player(n: u32, player: &[u64; 4]) {
-    print(n, player, &[], &[]);
+fn print_player<W: Write>(to: &mut W, n: u32, player: &[u64; 4]) -> io::Result<()> {
+    print(to, n, player, &[], &[])
 }
 
-fn run_event(s: &[u8], c: Call) {
+fn run_event<W: Write>(to: &mut W, s: &[u8], c: Call) -> io::Result<()> {
     let mut player = c.player;
     let n = moved(s, c, &mut player);
-    print_player(n, &player);
+    print_player(to, n, &player)
 }
 
-fn print_picture(n: u32, matrix: &[f64; 16], shown: &[u64; 3]) {
-    print(n, shown, matrix, &[]);
+fn print_picture<W: Write>(
+    to: &mut W,
+    n: u32,
+    matrix: &[f64; 16],
+    shown: &[u64; 3],
+) -> io::Result<()> {
+    print(to, n, shown, matrix, &[])
 }
 
-fn run_picture(s: &[u8], c: Call) {
+fn run_picture<W: Write>(to: &mut W, s: &[u8], c: Call) -> io::Result<()> {
     let player = c.player;
     let mut matrix = [FLOAT; 16];
     let mut shown = [WORD; 3];
     let n = motion_player_picture(s, &player, c.index, &mut matrix, &mut shown);
-    print_picture(n, &matrix, &shown);
+    print_picture(to, n, &matrix, &shown)
 }
 
 // The call that 25 bytes stand for, on a section.
-pub fn run(s: &[u8], call: &[u8])
+pub fn run<W: Write>(to: &mut W, s: &[u8], call: &[u8]) -> io::Result<()>
     requires { 25 ≤ length call.now }
 {
     let c = call_of(call);
     let code = c.code;
     match code {
-        0 => run_record(s, c),
-        2 | 5 => run_curve(s, c),
-        3 => run_rotation(s, c),
-        4 => run_scale(s, c),
-        6 => run_uv(s, c),
-        13 | 14 => run_resampling(s, c),
-        15 => run_matrix(s, c),
-        16 => print(motion_check(s, c.entry), &[], &[], &[]),
-        17 => run_scale_value(s, c),
-        18 => run_material(s, c),
-        19 => run_written(s, c),
-        20 | 21 => run_posing(s, c),
-        22 => run_kind(s),
-        23 | 24 | 25 => run_event(s, c),
-        26 => run_picture(s, c),
-        _ => run_two(s, c),
+        0 => run_record(to, s, c),
+        2 | 5 => run_curve(to, s, c),
+        3 => run_rotation(to, s, c),
+        4 => run_scale(to, s, c),
+        6 => run_uv(to, s, c),
+        13 | 14 => run_resampling(to, s, c),
+        15 => run_matrix(to, s, c),
+        16 => print(to, motion_check(s, c.entry), &[], &[], &[]),
+        17 => run_scale_value(to, s, c),
+        18 => run_material(to, s, c),
+        19 => run_written(to, s, c),
+        20 | 21 => run_posing(to, s, c),
+        22 => run_kind(to, s),
+        23 | 24 | 25 => run_event(to, s, c),
+        26 => run_picture(to, s, c),
+        _ => run_two(to, s, c),
     }
 }
