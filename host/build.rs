@@ -1,4 +1,4 @@
-//! Links the static library that `rt staticlib exports` writes.
+//! Links the static library that `bin/build-host` writes.
 use std::{env, path::Path};
 
 fn main() {
@@ -6,7 +6,7 @@ fn main() {
     let file = folder.join("libexports.a");
     println!("cargo:rerun-if-changed={}", file.display());
     if !file.exists() {
-        eprintln!("{} is missing: run `rt staticlib exports` first", file.display());
+        eprintln!("{} is missing: run `bin/build-host` first", file.display());
         std::process::exit(1);
     }
     println!("cargo:rustc-link-lib=static=exports");

@@ -1,6 +1,6 @@
 /* Motion sections of two-screen handheld games: JNT0, SRT0, PAT0.
  *
- * Link with libexports.a, which `rt staticlib exports` writes to target/staticlib.
+ * Link with libexports.a, which `bin/build-host` writes to target/staticlib.
  *
  * Every call takes a section of `length` bytes, motion_material two, motion_write_pattern lists in its place, of any length and with any contents,
  * and ends; motion_player_mode takes none. It answers 0, or the number of its refusal:
