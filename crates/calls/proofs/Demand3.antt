@@ -15,7 +15,7 @@ use Rattle.util.proofs.ReadsLaws.{goes_on, stops}
 use Rattle.info_block.specs.Name.{Name, earliest}
 use Rattle.nitro.specs.Container.{Kind, stamp_of, all_kinds, kind_of, stamped, section, Entry, entry_in, entry, EntryRecord, record_of, entry_of}
 use Rattle.nitro.proofs.ContainerLaws.{own_stamp, taken, own, stamp_of_lem, stamp_taken, stamp_refused}
-use Rattle.calls.specs.Calls.{Call, kind, check, find, on, Answer, ask, reader, answer}
+use Rattle.calls.specs.Calls.{Call, check, find, on, Answer, ask, reader, answer}
 use Rattle.calls.specs.Demand3.{On, Demand3}
 use Rattle.calls.proofs.CallsLaws.{find_earliest}
 
@@ -89,9 +89,12 @@ module _ (s : List ℕ) (i r : ℕ) (w : Whole s i r) where
         (taken (take 4 s) w.kind kd w.stamp)
 
 -- the kind is told by the stamp, which every entry of it has read too
-kind_within : (s : List ℕ) (i r : ℕ) (w : Whole s i r) → answer kind s ≡ accepted 4 w.kind
-unfolding answer reader stamped run
+kind_within : (s : List ℕ) (i r : ℕ) (w : Whole s i r) → run (stamped all_kinds) s 0 ≡ accepted 4 w.kind
+unfolding stamped run
 kind_within s i r w = had _ _ _ _ w.room (rw w.stamp refl)
+
+pub kind_held : (s : List ℕ) (i r : ℕ) (e : EntryRecord) → answer (check i) s ≡ accepted r e → (kd : Kind) × (run (stamped all_kinds) s 0 ≡ accepted 4 kd) × (4 ≤ r)
+kind_held s i r e h = let w = whole s i r e h in let f = w.far in (w.kind, kind_within s i r w, omega arith)
 
 -- .. and finding reads the section's header and info block
 found_within : (s : List ℕ) (i r : ℕ) → Whole s i r → (name : Name) → (j : ℕ) × (o : Option ℕ) × (answer (find name) s ≡ accepted j o) × (j ≤ r)
@@ -111,7 +114,6 @@ demand3 s k t =
       entry_kept = λ i r e h l. kept (check i) r e h l;
       entry_short = λ i r e h l. short (check i) r e h l;
       call_kept = on_kept;
-      kind_kept = kind_kept;
       find_kept = find_kept;
       call_short = on_short;
       refusal_stays = stays;
@@ -128,20 +130,12 @@ demand3 s k t =
     stays : (c : Call) (n : ℕ) → answer c (take k s) ≡ refused n → (n ≡ 2 → ⊥) → answer c (front k s t) ≡ refused n
     stays c n h d = unfold answer in util_cut.stays (reader c) (take k s) 0 n h d t
 
-    kind_kept : (i r : ℕ) (e : EntryRecord) → answer (check i) s ≡ accepted r e → r ≤ k → answer kind (front k s t) ≡ answer kind s
-    kind_kept i r e h l =
-        let w = whole s i r e h in
-        let f = w.far in
-        let a = kind_within s i r w in
-        kept kind 4 w.kind a (omega arith) ∙ sym a
-
     find_kept : (i r : ℕ) (e : EntryRecord) → answer (check i) s ≡ accepted r e → r ≤ k → (name : Name) → answer (find name) (front k s t) ≡ answer (find name) s
     find_kept i r e h l name =
         let f = found_within s i r (whole s i r e h) name in
         kept (find name) f.0 f.1 f.2 (omega arith) ∙ sym f.2
 
     on_kept : (i r : ℕ) (e : EntryRecord) → answer (check i) s ≡ accepted r e → r ≤ k → (c : Call) → On i c → answer c (front k s t) ≡ answer c s
-    on_kept i r e h l kind o = absurd o
     on_kept i r e h l (check j) o = subst (λ (x : ℕ). answer (check x) (front k s t) ≡ answer (check x) s) o (kept (check i) r e h l ∙ sym h)
     on_kept i r e h l (find name) o = absurd o
     on_kept i r e h l (on kd j q) o =
@@ -149,7 +143,6 @@ demand3 s k t =
         (unfold answer reader in answered_alike (entry_of kd i) (ask q) s (front k s t) 0 (entry_kept s i r (whole s i r e h) k t l kd))
 
     on_short : (i r : ℕ) (e : EntryRecord) → answer (check i) s ≡ accepted r e → k < r → (c : Call) → On i c → (answer c s ≡ refused 1 → ⊥) → answer c (take k s) ≡ refused 2
-    on_short i r e h l kind o n = absurd o
     on_short i r e h l (check j) o n = subst (λ (x : ℕ). answer (check x) (take k s) ≡ refused 2) o (short (check i) r e h l)
     on_short i r e h l (find name) o n = absurd o
     on_short i r e h l (on kd j q) o n =

@@ -17,7 +17,7 @@ use Rattle.animation.proofs.FiniteLaws.{Sized, SizedAxes, SmallValue}
 use Rattle.material_animation.proofs.FiniteLaws.{SizedTrack}
 use Rattle.nitro.specs.Container.{Kind, Entry, entry_of}
 use Rattle.nitro.proofs.FiniteLaws.{SizedValue, entry_all}
-use Rattle.calls.specs.Calls.{ObjectQuery, matrix, curve, scale_value, rotation_curve, resampled, matrix_bytes, MaterialQuery, uv_matrix, channel_curve, Query, of_object, pose, clip, of_material, material_name, of_pattern, pattern_name, texture_names, palette_names, at, ask_object, ask_material, ask, Call, kind, check, find, on, reader, answer}
+use Rattle.calls.specs.Calls.{ObjectQuery, matrix, curve, scale_value, rotation_curve, resampled, matrix_bytes, MaterialQuery, uv_matrix, channel_curve, Query, of_object, pose, clip, of_material, material_name, of_pattern, pattern_name, texture_names, palette_names, at, ask_object, ask_material, ask, Call, check, find, on, reader, answer}
 use Rattle.calls.specs.FramesTold.{ObjectTells, MaterialTells, QueryTells, AnswerTells, EveryListTold}
 
 -- a test that reads nothing, and what is told after it
@@ -70,7 +70,6 @@ query_tells palette_names e h = tt
 
 reader_tells : (c : Call) → All (AnswerTells c) (reader c)
 unfolding reader entry_of
-reader_tells kind = all_any (reader kind)
 reader_tells (check i) = all_any (reader (check i))
 reader_tells (find name) = all_any (reader (find name))
 reader_tells (on k i q) = all_bind (λ e. SizedValue k e.held) _ (entry_of k i) _ (all_after _ _ _ λ _. entry_all k i) (query_tells q)

@@ -134,21 +134,17 @@ ask palette_names e = answered (record { place = e.offset + e.held.palettes.plac
 -- ---- the calls
 
 pub data Call : Type 0 where
-  -- which kind the section is
-  kind : Call
   check : (entry : ℕ) → Call
   find : (name : Name) → Call
   on : (kind : Kind) (entry : ℕ) → Query kind → Call
 
 -- finding answers an index, or none
 abbrev pub Answer : Call → Type 0
-Answer kind = Kind
 Answer (check i) = EntryRecord
 Answer (find name) = Option ℕ
 Answer (on k i q) = Reply q
 
 unfoldable pub reader : (c : Call) → Reader (Answer c)
-reader kind = stamped all_kinds
 reader (check i) = bind (stamped all_kinds) (λ k. bind (entry k i) (λ e. done (record_of k e)))
 reader (find name) = bind (stamped all_kinds) (λ _. bind section (λ block. done (earliest name block.names)))
 reader (on k i q) = bind (entry_of k i) (λ e. tell (ask q e))

@@ -10,7 +10,8 @@ use Rattle.curve.specs.Curve.{Pair, always, listed}
 use Rattle.animation.specs.Animation.{translation, scale}
 use Rattle.nitro.specs.Container.{jnt, srt, pat, stamp_of, EntryRecord}
 use Rattle.gltf.specs.Curve.{no_span, span}
-use Rattle.calls.specs.Calls.{kind, check, find, on, of_object, pose, clip, matrix, matrix_bytes, curve, scale_value, rotation_curve, resampled, of_pattern, chosen, of_material, channel_curve, answer}
+use Rattle.calls.specs.Calls.{check, find, on, of_object, pose, clip, matrix, matrix_bytes, curve, scale_value, rotation_curve, resampled, of_pattern, chosen, of_material, channel_curve, answer}
+use Rattle.calls.specs.Kinds.{section_kind}
 use Rattle.calls.specs.Material.{Material, no_shift, joined, material}
 use Rattle.calls.specs.Evaluate.{evaluate}
 use Rattle.calls.specs.Pinned.{walk, walk_name}
@@ -48,8 +49,8 @@ unfolding evaluate
 inside_the_block = (refl, refl, refl)
 
 -- the kind is told by the first four bytes, whatever follows them
-pub its_kind : (answer kind (take 4 nested) ≡ accepted 4 jnt) × (answer kind (take 3 nested) ≡ refused 2) × (answer kind (0x54 ∷ 0x45 ∷ 0x58 ∷ 0x30 ∷ []) ≡ refused 1)
-unfolding evaluate
+pub its_kind : (section_kind (take 4 nested) ≡ accepted 4 jnt) × (section_kind (take 3 nested) ≡ refused 2) × (section_kind (0x54 ∷ 0x45 ∷ 0x58 ∷ 0x30 ∷ []) ≡ refused 1)
+unfolding evaluate section_kind
 its_kind = (refl, refl, refl)
 
 -- ---- 2. Tests come at their place among the parts
@@ -89,12 +90,16 @@ its_channel = (refl, refl, refl)
 -- ---- 4. A PAT0 entry of two tracks: one key, and none
 
 -- 1 texture name and 2 palette names, both lists at 88 of the entry
-abbrev pub blink : ℕ → ℕ → List ℕ
+abbrev blink : ℕ → ℕ → List ℕ
 blink texture palette =
     stamp_of pat ++ u32 0 ++ block 1 4 (u32 48) (zeros 16)
     ++ zeros 4 ++ u16 10 ++ u8 1 ++ u8 2 ++ u16 88 ++ u16 88
     ++ block 2 8 (u32 1 ++ u16 0 ++ u16 84 ++ u32 0 ++ u16 0 ++ u16 84) (zeros 32)
     ++ u16 3 ++ u8 texture ++ u8 palette ++ zeros 32
+
+-- .. for examples elsewhere
+abbrev pub blinking : ℕ → ℕ → List ℕ
+blinking = blink
 
 -- palette 1 is one of two palettes; texture 1 is none of one texture
 pub own_lists : (answer (on pat 0 (of_pattern 0 (chosen 0))) (blink 0 1) ≡ accepted 168 (record { texture = 0; palette = 1 })) × (answer (check 0) (blink 1 0) ≡ refused 8)

@@ -4,7 +4,7 @@ use Rattle.std.specs.Prelude.{ℕ, List, ◌≡◌}
 use Rattle.util.specs.Reader.{accepted}
 use Rattle.curve.specs.Curve.{RecordTells}
 use Rattle.nitro.specs.Container.{Kind}
-use Rattle.calls.specs.Calls.{ObjectQuery, matrix, curve, scale_value, rotation_curve, resampled, matrix_bytes, MaterialQuery, uv_matrix, channel_curve, Query, of_object, pose, clip, of_material, material_name, of_pattern, pattern_name, texture_names, palette_names, ObjectReply, MaterialReply, Reply, Call, kind, check, find, on, Answer, answer}
+use Rattle.calls.specs.Calls.{ObjectQuery, matrix, curve, scale_value, rotation_curve, resampled, matrix_bytes, MaterialQuery, uv_matrix, channel_curve, Query, of_object, pose, clip, of_material, material_name, of_pattern, pattern_name, texture_names, palette_names, ObjectReply, MaterialReply, Reply, Call, check, find, on, Answer, answer}
 
 -- what is promised of an answer: each that is a curve's record tells the frames of its list. Every query has its line.
 
@@ -32,10 +32,9 @@ QueryTells texture_names r = Unit {0}
 QueryTells palette_names r = Unit {0}
 
 abbrev pub AnswerTells : (c : Call) → Answer c → Type 0
-AnswerTells kind r = Unit {0}
 AnswerTells (check entry) r = Unit {0}
 AnswerTells (find name) r = Unit {0}
-AnswerTells (on k entry q) r = QueryTells q r
+AnswerTells (on kind entry q) r = QueryTells q r
 
 -- whatever is asked of a section, and whichever the entry
 abbrev pub EveryListTold : List ℕ → Type 0

@@ -1,8 +1,8 @@
 pub mod Calls
-pub mod Kinds
 pub mod Material
 pub mod Demand3
 pub mod OneAnswer
+pub mod Kinds
 pub mod BothCut
 pub mod Finding
 pub mod Samples

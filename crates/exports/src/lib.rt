@@ -12,6 +12,7 @@ ghost use Rattle.pose.specs.Pose.{posed_slice};
 ghost use Rattle.nitro.specs.Container.{jnt, srt, pat};
 ghost use Rattle.calls.specs.Calls.{answer, on, of_object, matrix_bytes, curve, scale_value, rotation_curve, resampled, of_material, uv_matrix, channel_curve, material_name, of_pattern, chosen, texture_names, palette_names, pattern_name, bytes_after};
 ghost use Rattle.calls.specs.Calls as calls;
+ghost use Rattle.calls.specs.Kinds.{section_kind};
 ghost use Rattle.calls.specs.Material as material;
 ghost use Rattle.player.specs.Player as machine;
 ghost use Rattle.player_words.specs.PlayerWords.{mode_of, player_of, Moves, picture_words, picture_floats};
@@ -38,7 +39,7 @@ use writing::write_pattern;
 
 // The kind of a section: 0 for JNT0, 1 for SRT0, 2 for PAT0.
 pub fn motion_kind(s: &[u8], out: &mut [u64; 1]) -> u32
-    ensures { Writes kind_words (told (answer calls.kind s.now)) result out.old out.new }
+    ensures { Writes kind_words (told (section_kind s.now)) result out.old out.new }
 {
     put_kind(kind(s), out)
 }

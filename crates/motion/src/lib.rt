@@ -8,6 +8,7 @@ ghost use Rattle.nitro.specs.ContainerCode.{stamp_means};
 ghost use Rattle.nitro.specs.EntryCode.{check_means};
 ghost use Rattle.calls.specs.Calls.{answer};
 ghost use Rattle.calls.specs.Calls as calls;
+ghost use Rattle.calls.specs.Kinds.{section_kind};
 ghost use Rattle.calls.specs.AnswersCode.{found_means};
 
 use calls::Found;
@@ -18,7 +19,7 @@ use nitro::entry::{EntryCheck, check_entry};
 
 // The kind of the section: the number, or the kind that its stamp says.
 pub fn kind(s: &[u8]) -> StampRead
-    ensures { stamp_means result ≡ answer calls.kind s.now }
+    ensures { stamp_means result ≡ section_kind s.now }
 {
     read_stamp(s)
 }

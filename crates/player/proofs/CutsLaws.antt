@@ -11,9 +11,10 @@ use Rattle.util.specs.Reader.{Outcome, accepted, refused, Verdict, denied}
 use Rattle.util.specs.Place.{front}
 use Rattle.util.proofs.Cut.{le_or_lt}
 use Rattle.nitro.specs.Container.{Kind, jnt, srt, pat, EntryRecord}
-use Rattle.calls.specs.Calls.{kind, check, on, answer}
+use Rattle.calls.specs.Kinds.{section_kind}
+use Rattle.calls.specs.Calls.{check, on, answer}
 use Rattle.calls.proofs.Demand3.{demand3}
-use Rattle.calls.proofs.KindsLaws.{kinds}
+use Rattle.calls.proofs.KindsLaws.{kinds, kind_cut}
 use Rattle.player.specs.Player.{Player, Event, pick, tick, set, new, kept, step, play, shown_of, picture}
 use Rattle.player.specs.Cuts.{Settled, whole, no_entry, EventSettled, AllSettled, Cuts}
 use Rattle.player.proofs.StepLaws.{pick_refused, picks, tick_early, picture_early, tick_refused, ticks, picture_refused, pictures}
@@ -77,36 +78,36 @@ module _ (s : List ℕ) (k : ℕ) (t : List ℕ) where
     where
       go : (o : Option ℕ) → p.entry ≡ o → picture (front k s t) p index ≡ picture s p index
       go none q = picture_early (front k s t) p q index ∙ sym (picture_early s p q index)
-      go (some i) q = by (h i q) (answer kind s) refl
+      go (some i) q = by (h i q) (section_kind s) refl
         where
-          by : (r : ℕ) × (e : EntryRecord) × (answer (check i) s ≡ accepted r e) × (r ≤ k) → (o : Outcome Kind) → answer kind s ≡ o → picture (front k s t) p index ≡ picture s p index
+          by : (r : ℕ) × (e : EntryRecord) × (answer (check i) s ≡ accepted r e) × (r ≤ k) → (o : Outcome Kind) → section_kind s ≡ o → picture (front k s t) p index ≡ picture s p index
           by w (accepted m kd) z =
-              pictures (front k s t) p i q m kd ((demand3 s k t).kind_kept i w.0 w.1 w.2 w.3 ∙ z) index
+              pictures (front k s t) p i q m kd ((kind_cut s k t).entry_kept i w.0 w.1 w.2 w.3 ∙ z) index
               ∙ (shown_alike i w.0 w.1 w.2 w.3 kd p.frame index ∙ sym (pictures s p i q m kd z index))
-          by w (refused n) z = picture_refused (front k s t) p i q n ((demand3 s k t).kind_kept i w.0 w.1 w.2 w.3 ∙ z) index ∙ sym (picture_refused s p i q n z index)
+          by w (refused n) z = picture_refused (front k s t) p i q n ((kind_cut s k t).entry_kept i w.0 w.1 w.2 w.3 ∙ z) index ∙ sym (picture_refused s p i q n z index)
 
   -- ---- before it
 
   module _ (i r : ℕ) (e : EntryRecord) (h : answer (check i) s ≡ accepted r e) (l : k < r) (p : Player) (q : p.entry ≡ some i) (index : ℕ) where
-    shown_short : (kd : Kind) → answer kind s ≡ accepted 4 kd → shown_of kd i p.frame index (take k s) ≡ denied 2
+    shown_short : (kd : Kind) → section_kind s ≡ accepted 4 kd → shown_of kd i p.frame index (take k s) ≡ denied 2
     shown_short jnt z = rw ((kinds s).short jnt z i r e h k l _) refl
     shown_short srt z = rw ((kinds s).short srt z i r e h k l _) refl
     shown_short pat z = rw ((kinds s).short pat z i r e h k l _) refl
 
     -- the front's stamp is the section's, or cut
-    stamp_short : (kd : Kind) → answer kind s ≡ accepted 4 kd → picture (take k s) p index ≡ denied 2
+    stamp_short : (kd : Kind) → section_kind s ≡ accepted 4 kd → picture (take k s) p index ≡ denied 2
     stamp_short kd z =
         ⊎_elim
         (λ (a : 4 ≤ k).
-        let there = subst (λ (x : List ℕ). answer kind x ≡ accepted 4 kd) (append-nil (take k s)) ((demand3 s k []).answer_kept kind 4 kd z a) in
+        let there = subst (λ (x : List ℕ). section_kind x ≡ accepted 4 kd) (append-nil (take k s)) ((kind_cut s k []).kept 4 kd z a) in
         pictures (take k s) p i q 4 kd there index ∙ shown_short kd z)
-        (λ (b : k < 4). picture_refused (take k s) p i q 2 ((demand3 s k []).answer_short kind 4 kd z b) index)
+        (λ (b : k < 4). picture_refused (take k s) p i q 2 ((kind_cut s k []).short 4 kd z b) index)
         (le_or_lt 4 k)
 
     too_short : picture (take k s) p index ≡ denied 2
-    too_short = go (answer kind s) refl
+    too_short = go (section_kind s) refl
       where
-        go : (o : Outcome Kind) → answer kind s ≡ o → picture (take k s) p index ≡ denied 2
+        go : (o : Outcome Kind) → section_kind s ≡ o → picture (take k s) p index ≡ denied 2
         go (accepted m kd) z = stamp_short kd (z ∙ ap (λ (x : ℕ). accepted x kd) ((kinds s).told_by m kd z))
         go (refused n) z = let w = (kinds s).no_kind n z (check i) in let y : ◌≡◌ {A = ℕ} 0 1 = cc in absurd (omega arith)
 
@@ -122,13 +123,13 @@ module _ (s : List ℕ) (k : ℕ) (t : List ℕ) where
   event_stays p (set mode) n h d = absurd ((refusals (take k s) p).mode_set mode n h)
 
   -- a kind that the front has is the kind whatever follows
-  kind_stays : (m : ℕ) (kd : Kind) → answer kind (take k s) ≡ accepted m kd → answer kind (front k s t) ≡ accepted m kd
+  kind_stays : (m : ℕ) (kd : Kind) → section_kind (take k s) ≡ accepted m kd → section_kind (front k s t) ≡ accepted m kd
   kind_stays m kd z =
       let twice : take k (take k s) ≡ take k s = take-take k k s (omega arith) in
       ⊎_elim
-      (λ (a : m ≤ k). subst (λ (x : List ℕ). answer kind (x ++ t) ≡ accepted m kd) twice ((demand3 (take k s) k t).answer_kept kind m kd z a))
+      (λ (a : m ≤ k). subst (λ (x : List ℕ). section_kind (x ++ t) ≡ accepted m kd) twice ((kind_cut (take k s) k t).kept m kd z a))
       (λ (b : k < m).
-      let c = subst (λ (x : List ℕ). answer kind x ≡ refused 2) twice ((demand3 (take k s) k t).answer_short kind m kd z b) in
+      let c = subst (λ (x : List ℕ). section_kind x ≡ refused 2) twice ((kind_cut (take k s) k t).short m kd z b) in
       let y : ◌≡◌ {A = ℕ} 0 1 = cc in
       absurd (omega arith))
       (le_or_lt m k)
@@ -143,16 +144,16 @@ module _ (s : List ℕ) (k : ℕ) (t : List ℕ) where
     where
       go : (o : Option ℕ) → p.entry ≡ o → picture (front k s t) p index ≡ denied n
       go none q = picture_early (front k s t) p q index ∙ (sym (picture_early (take k s) p q index) ∙ h)
-      go (some i) q = by (answer kind (take k s)) refl
+      go (some i) q = by (section_kind (take k s)) refl
         where
-          by : (o : Outcome Kind) → answer kind (take k s) ≡ o → picture (front k s t) p index ≡ denied n
+          by : (o : Outcome Kind) → section_kind (take k s) ≡ o → picture (front k s t) p index ≡ denied n
           by (accepted m kd) z =
               pictures (front k s t) p i q m kd (kind_stays m kd z) index
               ∙ shown_stays kd i p.frame index n (sym (pictures (take k s) p i q m kd z index) ∙ h) d
           by (refused m) z =
               let w = picture_refused (take k s) p i q m z index in
               let y : m ≡ n = cc in
-              picture_refused (front k s t) p i q n ((demand3 s k t).refusal_stays kind n (z ∙ ap refused y) d) index
+              picture_refused (front k s t) p i q n ((kind_cut s k t).refusal_stays n (z ∙ ap refused y) d) index
 
 pub cuts : (s : List ℕ) (k : ℕ) (t : List ℕ) → Cuts s k t
 cuts s k t =

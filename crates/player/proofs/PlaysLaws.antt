@@ -10,7 +10,8 @@ use native.Mathlib.Omega.{arith}
 use Rattle.util.specs.Reader.{Outcome, accepted, refused, answered, denied, told, and_then}
 use Rattle.util.proofs.Cut.{le_or_lt}
 use Rattle.nitro.specs.Container.{Kind, jnt, srt, pat, EntryRecord}
-use Rattle.calls.specs.Calls.{kind, check, answer}
+use Rattle.calls.specs.Kinds.{section_kind}
+use Rattle.calls.specs.Calls.{check, answer}
 use Rattle.calls.proofs.KindsLaws.{kinds}
 use Rattle.player.specs.Player.{Mode, hold, loop, Player, Event, pick, tick, set, next, kept, step, play, shown_of}
 use Rattle.player.specs.declared.PlayerAnswer.{PlayerAnswer}
@@ -45,7 +46,7 @@ shown s p i is index =
       no_kind = λ n e. (picture_refused s p i is n e index, λ k. none_shown n e k);
     }
   where
-    none_shown : (n : ℕ) → answer kind s ≡ refused n → (k : Kind) → shown_of k i p.frame index s ≡ denied n
+    none_shown : (n : ℕ) → section_kind s ≡ refused n → (k : Kind) → shown_of k i p.frame index s ≡ denied n
     none_shown n e jnt = rw ((kinds s).no_kind n e _) refl
     none_shown n e srt = rw ((kinds s).no_kind n e _) refl
     none_shown n e pat = rw ((kinds s).no_kind n e _) refl

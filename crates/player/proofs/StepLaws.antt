@@ -6,7 +6,8 @@ use mathlib.Core.Path.{◌≡◌, refl}
 use borrow.Author.Tests.{eq-eqb, ne_eqb, lt-ltb, le-ltb}
 use Rattle.util.specs.Reader.{accepted, refused, answered, denied}
 use Rattle.nitro.specs.Container.{Kind, EntryRecord}
-use Rattle.calls.specs.Calls.{kind, check, answer}
+use Rattle.calls.specs.Kinds.{section_kind}
+use Rattle.calls.specs.Calls.{check, answer}
 use Rattle.player.specs.Player.{Mode, Player, pick, tick, at_last, next, step, shown_of, picture}
 
 -- ---- the frame that a tick goes to
@@ -54,10 +55,10 @@ module _ (s : List ℕ) (p : Player) where
     unfolding step
     ticks r e q = rw (h, q) refl
 
-    pub picture_refused : (n : ℕ) → answer kind s ≡ refused n → (index : ℕ) → picture s p index ≡ denied n
+    pub picture_refused : (n : ℕ) → section_kind s ≡ refused n → (index : ℕ) → picture s p index ≡ denied n
     unfolding picture
     picture_refused n q index = rw (h, q) refl
 
-    pub pictures : (r : ℕ) (k : Kind) → answer kind s ≡ accepted r k → (index : ℕ) → picture s p index ≡ shown_of k i p.frame index s
+    pub pictures : (r : ℕ) (k : Kind) → section_kind s ≡ accepted r k → (index : ℕ) → picture s p index ≡ shown_of k i p.frame index s
     unfolding picture
     pictures r k q index = rw (h, q) refl

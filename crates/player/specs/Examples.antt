@@ -5,7 +5,8 @@ use Rattle.util.specs.Reader.{answered, denied}
 use Rattle.matrix.specs.Matrix.{f0, f1, col4}
 use Rattle.calls.specs.Evaluate.{evaluate}
 use Rattle.calls.specs.Pinned.{walk}
-use Rattle.calls.specs.Examples.{scroll, blink}
+use Rattle.calls.specs.Kinds.{section_kind}
+use Rattle.calls.specs.Examples.{scroll, blinking}
 use Rattle.player.specs.Player.{Mode, hold, loop, Player, pick, tick, set, new, next, step, play, matrix, choice, picture}
 
 abbrev at : ℕ → ℕ → Mode → Player
@@ -52,8 +53,8 @@ no_frames = (refl, refl)
 pub pictures :
     (picture (scroll 84) (at 0 0 hold) 0 ≡ answered (matrix (record { c0 = col4 f1 f0 f0 f0; c1 = col4 f0 f1 f0 f0; c2 = col4 f0 f0 f1 f0; c3 = col4 f0 f0 f0 f1 })))
     × (picture (scroll 84) (at 0 0 hold) 1 ≡ denied 9)
-    × (picture (blink 0 1) (at 0 7 hold) 0 ≡ answered (choice (record { texture = 0; palette = 1 })))
-    × (picture (blink 0 1) (at 0 7 hold) 1 ≡ denied 10)
+    × (picture (blinking 0 1) (at 0 7 hold) 0 ≡ answered (choice (record { texture = 0; palette = 1 })))
+    × (picture (blinking 0 1) (at 0 7 hold) 1 ≡ denied 10)
     × (picture (take 3 walk) (at 0 7 hold) 0 ≡ denied 2)
-unfolding evaluate picture
+unfolding evaluate section_kind picture
 pictures = (refl, refl, refl, refl, refl)

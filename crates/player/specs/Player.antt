@@ -5,7 +5,8 @@ use Rattle.std.proofs.Math.Option.{Option, none, some}
 use Rattle.util.specs.Reader.{Verdict, answered, denied, told, and_then}
 use Rattle.matrix.specs.declared.Mat4.{Mat4}
 use Rattle.nitro.specs.Container.{Kind, jnt, srt, pat}
-use Rattle.calls.specs.Calls.{Chosen, of_object, of_material, uv_matrix, of_pattern, chosen, kind, check, on, answer}
+use Rattle.calls.specs.Kinds.{section_kind}
+use Rattle.calls.specs.Calls.{Chosen, of_object, of_material, uv_matrix, of_pattern, chosen, check, on, answer}
 use Rattle.calls.specs.Calls as calls
 
 -- ---- the machine
@@ -77,5 +78,5 @@ shown_of pat i frame track s = and_then (told (answer (on pat i (of_pattern trac
 unfoldable pub picture : List ℕ → Player → (index : ℕ) → Verdict Picture
 picture s p index =
     and_then (picked p.entry) λ i.
-    and_then (told (answer kind s)) λ k.
+    and_then (told (section_kind s)) λ k.
     shown_of k i p.frame index s

@@ -3,7 +3,8 @@ use Rattle.std.specs.Prelude.{ℕ, suc, ◌-◌, ◌%◌, min, List, [], ◌∷�
 use Rattle.std.proofs.Math.Option.{none, some}
 use Rattle.util.specs.Reader.{accepted, refused, denied}
 use Rattle.nitro.specs.Container.{Kind, EntryRecord}
-use Rattle.calls.specs.Calls.{kind, check, answer}
+use Rattle.calls.specs.Kinds.{section_kind}
+use Rattle.calls.specs.Calls.{check, answer}
 use Rattle.player.specs.Player.{Mode, hold, loop, Player, Event, pick, tick, set, kept, step, play, shown_of, picture}
 
 -- ---- which events are refused, and with which number
@@ -25,9 +26,9 @@ pub record Refusals (s : List ℕ) (p : Player) : Type 0 where
 
 pub record Shown (s : List ℕ) (p : Player) (i : ℕ) (is : p.entry ≡ some i) (index : ℕ) : Type 0 where
   -- what the call for the section's kind answers at the player's frame, its refusals included
-  pub own_call : (k : Kind) → answer kind s ≡ accepted 4 k → picture s p index ≡ shown_of k i p.frame index s
+  pub own_call : (k : Kind) → section_kind s ≡ accepted 4 k → picture s p index ≡ shown_of k i p.frame index s
   -- a section of no kind is refused as each of these calls refuses it
-  pub no_kind : (n : ℕ) → answer kind s ≡ refused n → (picture s p index ≡ denied n) × ((k : Kind) → shown_of k i p.frame index s ≡ denied n)
+  pub no_kind : (n : ℕ) → section_kind s ≡ refused n → (picture s p index ≡ denied n) × ((k : Kind) → shown_of k i p.frame index s ≡ denied n)
 
 -- ---- at which frame
 

@@ -1,8 +1,8 @@
 use mathlib.Core.Path.{sym}
-use Rattle.calls.specs.Calls.{reader, answer}
+use Rattle.calls.specs.Kinds.{section_kind}
 use Rattle.motion.proofs.kind.Goals as goal
 
 -- `motion::kind` meets its contract. Assumes nothing.
 pub returns : goal.returns
-unfolding answer reader
+unfolding section_kind
 returns c = sym c.read_stamp.ensures
