@@ -12,13 +12,11 @@
 mod print;
 mod stored;
 
+use input::read_full;
 use std::io;
-use std::io::{BufWriter, Read, Write};
+use std::io::{Read, Write};
 use stored::run;
 use util::view::{word16, word32};
-
-// More than the longest list has.
-const MOST: u64 = 524288;
 
 // The call at `at`; one that the list does not hold is passed over.
 fn run_call<W: Write>(to: &mut W, list: &[u8], at: usize) -> io::Result<()> {
@@ -53,10 +51,13 @@ fn run_list<W: Write>(to: &mut W, list: &[u8]) -> io::Result<()> {
     run_calls(to, list, word16(list, 0))
 }
 
+// What `from` holds, read into `list` and run.
+fn run_input<R: Read, W: Write>(from: &mut R, to: &mut W, list: &mut [u8]) -> io::Result<()> {
+    let n = read_full(from, list)?;
+    run_list(to, &list[..n])
+}
+
 fn main(rt: HostRuntime) -> io::Result<()> {
-    let mut list = Vec::new(rt.alloc());
-    rt.stdin().lock().take(MOST).read_to_end(&mut list)?;
-    let mut to = BufWriter::new(rt.alloc(), rt.stdout())?;
-    run_list(&mut to, &list)?;
-    to.flush()
+    let mut list = [0u8; 262144];
+    run_input(&mut rt.stdin().lock(), &mut rt.stdout(), &mut list)
 }
