@@ -42,10 +42,6 @@ def laws(p):
     return p.split("/")[2] == "specs" or len(p.split("/")) == 4
 
 
-def plain(n):
-    return re.fullmatch(r"[a-z][a-z0-9_]*'*|[A-Z][A-Za-z0-9]*'*", n)
-
-
 def snake(n):
     n = n.replace("-", "_")
     return re.sub(r"(?<=[a-z0-9])([A-Z])", lambda m: "_" + m.group(1).lower(), n)

@@ -1,4 +1,4 @@
--- What the code of animation.rt answers: where the curves of an entry stand. Assumes nothing.
+-- What the code answers: where the curves of an entry stand. Assumes nothing.
 use Rattle.std.specs.Prelude.{ℕ, ◌+◌, ◌*◌, ◌%◌, max, ◌≤◌, ◌<◌, cond, List, [], ◌∷◌, map, ◌≡◌, leb, length, take, drop, get_or}
 use Rattle.util.specs.View.{little, word_at, view}
 use Rattle.util.specs.Reader.{Reader, Outcome, accepted, refused, run, each}

@@ -16,7 +16,7 @@ use lib.Ieee.Nearest.{div_same}
 use Rattle.util.specs.Within.{Under}
 use Rattle.curve.specs.Curve.{floor, ceil}
 
--- what the borrow checker knows of a float that is a parameter, as `c.good.0.1`
+-- what the borrow checker knows of a float that is a parameter, as `c.well_formed.0.1`
 pub held : {x : Bool} → x ≡ true → T x
 held e = subst T (sym e) tt
 

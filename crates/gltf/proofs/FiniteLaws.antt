@@ -10,7 +10,7 @@ use Rattle.matrix.proofs.MagnitudeLaws.{below_finite}
 use Rattle.animation.proofs.FiniteLaws.{SizedAxes, axes_sized}
 use Rattle.gltf.specs.Curve.{frames_of, axes_domain, sample_axes, resample_vec3}
 
--- for a default of 0 or 1, below_zero or below-one is its p
+-- for a default of 0 or 1, below_zero or below_one is its p
 module _ (default : Float) (p : Small default) (a : Axes) (h : SizedAxes Small a) where
   samples_finite : (frames : List ℕ) → Each Finite (sample_axes default a frames)
   unfolding sample_axes

@@ -112,6 +112,7 @@ fn is_empty(c: ScalarCurve) -> bool
 }
 
 // Whether a list without values is among the three curves.
+#[tactic(auto, using(crate::proofs::ResampleLaws::or_first, crate::proofs::ResampleLaws::or_second), unfolding(crate::specs::Curve::any_empty))]
 fn any_empty(a: AxisCurves) -> bool
     ensures { (s : List ℕ) → result ≡ any_empty (axis_curves s a) }
 {

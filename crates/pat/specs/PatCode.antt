@@ -1,4 +1,4 @@
--- What the code of pat.rt finds of a track. Assumes nothing.
+-- What the code of pat finds of a track. Assumes nothing.
 use Rattle.std.specs.Prelude.{ℕ, ◌+◌, ◌*◌, ◌≤◌, List, ◌≡◌, length, drop}
 use Rattle.util.specs.View.{view}
 use Rattle.util.specs.Reader.{answered, denied, told}

@@ -58,6 +58,6 @@ fn run_input<R: Read, W: Write>(from: &mut R, to: &mut W, list: &mut [u8]) -> io
 }
 
 fn main(rt: HostRuntime) -> io::Result<()> {
-    let mut list = [0u8; 262144];
+    let mut list = [0u8; 294912];
     run_input(&mut rt.stdin().lock(), &mut rt.stdout(), &mut list)
 }

@@ -1,4 +1,4 @@
--- What the code of srt.rt finds of a track. Assumes nothing.
+-- What the code of srt finds of a track. Assumes nothing.
 use Rattle.std.specs.Prelude.{ℕ, ◌+◌, ◌≤◌, List, ◌≡◌, length, drop, Float}
 use Rattle.util.specs.Reader.{denied, told}
 use Rattle.curve.specs.Curve.{Curve}

@@ -3,30 +3,10 @@ use Rattle.util.specs.Reader.{answered}
 use Rattle.calls.specs.Calls.{matrix, ask_object}
 use Rattle.nitro.proofs.EntryLaws.{onward}
 use Rattle.jnt.specs.OpenedCode.{ObjectOpens}
-use Rattle.jnt.proofs.JntLaws.{entry_here, inside_here, told_here}
-use borrow.Author.Rules.{rules}
+use Rattle.jnt.proofs.JntLaws.{inside_here, told_here}
 use Rattle.jnt.proofs.matrix.Goals as goal
 
 -- `jnt::matrix` meets its contract. Assumes nothing.
-pub slice_bounds-here-count : goal.slice_bounds-here-count
-slice_bounds-here-count c =
-    let a = c.args in
-    let w = subst (ObjectOpens a.s.now a.entry a.object) c.in-At.is c.open_object.ensures in
-    w.start
-
-pub slice_bounds-here-start : goal.slice_bounds-here-start
-slice_bounds-here-start c =
-    let a = c.args in
-    let w = subst (ObjectOpens a.s.now a.entry a.object) c.in-At.is c.open_object.ensures in
-    let h = w.start in
-    search rules
-
-pub object_at-c-requires : goal.object_at-c-requires
-object_at-c-requires c =
-    let a = c.args in
-    let w = subst (ObjectOpens a.s.now a.entry a.object) c.in-At.is c.open_object.ensures in
-    entry_here a.s.now a.entry a.object _ _ w _ (onward _ a.s.now)
-
 pub sample_at-requires : goal.sample_at-requires
 sample_at-requires c =
     let a = c.args in

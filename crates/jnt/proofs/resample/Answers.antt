@@ -10,23 +10,9 @@ use Rattle.calls.specs.Calls.{resampled, ask_object}
 use Rattle.nitro.proofs.EntryLaws.{onward}
 use Rattle.jnt.specs.OpenedCode.{ObjectOpens}
 use Rattle.jnt.proofs.JntLaws.{entry_here, inside_here, told_here}
-use borrow.Author.Rules.{rules}
 use Rattle.jnt.proofs.resample.Goals as goal
 
 -- `jnt::resample` meets its contract. Assumes nothing.
-pub slice_bounds-here-count : goal.slice_bounds-here-count
-slice_bounds-here-count c =
-    let a = c.args in
-    let w = subst (ObjectOpens a.s.now a.entry a.object) c.in-At.is c.open_object.ensures in
-    w.start
-
-pub slice_bounds-here-start : goal.slice_bounds-here-start
-slice_bounds-here-start c =
-    let a = c.args in
-    let w = subst (ObjectOpens a.s.now a.entry a.object) c.in-At.is c.open_object.ensures in
-    let h = w.start in
-    search rules
-
 pub object_at-requires : goal.object_at-requires
 object_at-requires c =
     let a = c.args in

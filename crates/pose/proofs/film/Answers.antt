@@ -1,19 +1,23 @@
-use Prim.Native.Nat.{ℕ}
+use Prim.Native.Nat.{ℕ, ◌*◌, ◌≤◌, ◌<◌}
 use mathlib.Core.Path.{◌≡◌, refl, subst, ◌∙◌}
 use native.Mathlib.Omega.{arith}
-use Rattle.animation.specs.Animation.{Object}
+use Rattle.animation.specs.Animation.{Object, most_objects}
 use Rattle.pose.specs.PoseCode.{Filmed}
 use Rattle.pose.proofs.PoseLaws.{Shot, shot_none, shot_more, past_frames, too_small, filmed, floats_few, object_inside, object_found}
 use Rattle.pose.proofs.film.Goals as goal
+
+-- the floats can be counted
+counted : (c : goal.Else-first-frames) → (c.args.a.objects ≤ most_objects) × (16 * (c.args.a.objects * c.args.frames) < 18446744073709551616)
+counted c = floats_few c.args.s.now c.args.a c.requires (λ (i : ℕ). omega (arith, c.type_inv.s i)) c.args.frames (omega arith)
 
 pub returns-then-first-frames : goal.returns-then-first-frames
 returns-then-first-frames c = let a = c.args in λ w. past_frames w.held.objects a.a.objects a.first a.frames a.out.now w.count (omega arith)
 
 pub overflow_mul-n : goal.overflow_mul-n
-overflow_mul-n c = let k = floats_few c.args.s.now c.args.a c.requires (λ (i : ℕ). omega (arith, c.type_inv.s i)) c.args.frames (omega arith) in omega (arith, k.0, k.1)
+overflow_mul-n c = let k = counted c in omega (arith, k.0, k.1)
 
 pub overflow_mul-n-2 : goal.overflow_mul-n-2
-overflow_mul-n-2 c = let k = floats_few c.args.s.now c.args.a c.requires (λ (i : ℕ). omega (arith, c.type_inv.s i)) c.args.frames (omega arith) in omega (arith, k.0, k.1)
+overflow_mul-n-2 c = let k = counted c in omega (arith, k.0, k.1)
 
 pub returns-then-out-n : goal.returns-then-out-n
 returns-then-out-n c =

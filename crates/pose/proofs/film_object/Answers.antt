@@ -1,4 +1,4 @@
-use Prim.Native.Nat.{ℕ, ◌+◌}
+use Prim.Native.Nat.{ℕ, ◌+◌, ◌*◌, ◌<◌}
 use mathlib.Core.Path.{◌≡◌, sym, subst}
 use native.Mathlib.Omega.{arith}
 use Rattle.animation.specs.AnimationCode.{object_curves}
@@ -6,20 +6,24 @@ use Rattle.pose.specs.PoseCode.{Filmed}
 use Rattle.pose.proofs.PoseLaws.{place_inside, film_none, film_more}
 use Rattle.pose.proofs.film_object.Goals as goal
 
+-- the object's place in this pose is before the end of what is lent
+inside : (c : goal.After-put_floats-arg-1) → c.args.n * c.loop-f.f + c.args.o < c.args.n * c.args.frames
+inside c = place_inside c.args.n c.args.o c.loop-f.f c.args.frames c.requires.1 c.loop-f-test.true
+
 pub loop-f-init : goal.loop-f-init
 loop-f-init c = let a = c.args in (omega arith, film_none (object_curves a.t a.s.now a.c) a.o a.n a.first a.out.now)
 
 pub overflow_mul-n : goal.overflow_mul-n
-overflow_mul-n c = omega (arith, place_inside c.args.n c.args.o c.loop-f.f c.args.frames c.requires.1 c.loop-f-test.true)
+overflow_mul-n c = omega (arith, inside c)
 
 pub overflow_add-n : goal.overflow_add-n
-overflow_add-n c = omega (arith, place_inside c.args.n c.args.o c.loop-f.f c.args.frames c.requires.1 c.loop-f-test.true)
+overflow_add-n c = omega (arith, inside c)
 
 pub overflow_mul-n-in-loop-f : goal.overflow_mul-n-in-loop-f
-overflow_mul-n-in-loop-f c = omega (arith, place_inside c.args.n c.args.o c.loop-f.f c.args.frames c.requires.1 c.loop-f-test.true)
+overflow_mul-n-in-loop-f c = omega (arith, inside c)
 
 pub put_floats-requires : goal.put_floats-requires
-put_floats-requires c = omega (arith, place_inside c.args.n c.args.o c.loop-f.f c.args.frames c.requires.1 c.loop-f-test.true, c.loop-f.invariant.1.size)
+put_floats-requires c = omega (arith, inside c, c.loop-f.invariant.1.size)
 
 pub loop-f-preserved : goal.loop-f-preserved
 loop-f-preserved c =
