@@ -3,7 +3,7 @@
 use Prim.Native.Nat.{ℕ, ◌+◌, ◌*◌, ◌≤◌, ◌<◌}
 use mathlib.Core.Bool.{Bool, true, false, cond}
 use mathlib.Core.List.{List}
-use mathlib.Core.Path.{◌≡◌, ◌∙◌}
+use mathlib.Core.Path.{◌≡◌, refl, ◌∙◌}
 use native.Mathlib.Omega.{arith}
 use borrow.Author.Tests.{leb-true, ltb-true}
 use lib.Dec.{leb, ltb, eqb, lit≤}
@@ -12,7 +12,6 @@ use lib.Ieee.{Float}
 use Rattle.util.specs.Bits.{bits, bit}
 use Rattle.util.specs.Fixed.{Fix, fix1_19_12, fix1_3_12, width}
 use Rattle.util.specs.Reader.{done, accepted, run}
-use Rattle.util.specs.declared.cur.Tally.{Tally}
 use Rattle.util.specs.ReaderCode.{tally_of}
 use Rattle.util.specs.Sums.{total}
 use Rattle.util.proofs.All.{Bytes, Each, each_at, each_of, each_map, Many, All, list_all, length_all, unless_all, all_run, all_map, all_cond, all_bind, all_after, all_each}
@@ -22,7 +21,8 @@ use Rattle.matrix.specs.Finite.{FiniteMat}
 use Rattle.matrix.specs.Matrix.{f0, f1, trs}
 use Rattle.matrix.proofs.MagnitudeLaws.{Three, Nine, three, translation_below, rotation_below, scale_below, product_below, below_mat}
 use Rattle.rotation.proofs.MagnitudeLaws.{pivot_small, basis_small}
-use Rattle.curve.specs.Curve.{none, Pair}
+use Rattle.curve.specs.declared.Pair.{Pair}
+use Rattle.curve.specs.Curve.{none}
 use Rattle.curve.proofs.MagnitudeLaws.{SizedCurve, SmallPair, firsts_sized, count_few, scalar_sized, rotation_sized, number_small, pair_small, sized}
 use Rattle.animation.specs.Animation.{PerAxis, Axes, Object, Animation, no_axes, axes_samples, object_samples, most_objects, Triple, translation, scale, Value, first_numbers, value_from, left_out_bit, start_of, end_of, values_of, width_of, format_of, curve_word, list_fields, scalar_list, scalar, axes, animated_axes, pivot_of, basis_of, pivot_record, basis_record, referred, reference, rotation_list, rotation, animated_rotation, animated, object, animation, axes_at, matrix_at}
 use Rattle.animation.proofs.ScalarLaws.{end_lt, word_told}
@@ -171,8 +171,8 @@ module _ (pivot basis : ℕ) where
       all_cond _ (bit flags 0) (done _) (animated pivot basis flags (p + 4)) (record { translation = no_axes_lem Small; rotation = tt; scale = no_axes_lem SmallPair }) (animated_all _ _)
 
   -- what code counts of an object's lists
-  pub object_few : (s : List ℕ) → Bytes s → (p m : ℕ) (x : Tally) → x ≡ tally_of object_samples (run (object pivot basis p) s m) → (j c : ℕ) → x ≡ Tally.Whole j c → c ≤ object_bound
-  object_few s h p m = tally_le object_samples object_bound (object pivot basis p) (all_map Sized (λ o. object_samples o ≤ object_bound) sized_few (object pivot basis p) (object_all p)) s h m
+  pub object_few : (s : List ℕ) → Bytes s → (p m : ℕ) (j c : ℕ) → accepted j c ≡ tally_of object_samples (run (object pivot basis p) s m) → c ≤ object_bound
+  object_few s h p m j c e = tally_le object_samples object_bound (object pivot basis p) (all_map Sized (λ o. object_samples o ≤ object_bound) sized_few (object pivot basis p) (object_all p)) s h m _ e j c refl
 
 abbrev pub SizedAnimation : Animation → Type 0
 SizedAnimation a = (length a.objects ≤ most_objects) × Each Sized a.objects

@@ -9,37 +9,45 @@ use native.Mathlib.Nat.{mul-le-mul_left}
 use native.Mathlib.Numerals.{add-one}
 use native.Mathlib.Omega.{arith}
 use borrow.Author.Tests.{le-leb, lt-leb}
-use lib.Bits.{bit_xor, xor_block, xor_comm, xor_shifted, xor_zero_r}
-use lib.Dec.{leb, lit<}
+use lib.Dec.{leb}
 use lib.ListN.{length, drop, drop_of_length-le}
 use lib.Seq.{drop-cons}
-use Rattle.util.specs.declared.cur.Reach.TheVariants.{Whole, Refused}
 use Rattle.util.specs.Bits.{bits, bit}
 use Rattle.util.specs.View.{little, word_at, view}
 use Rattle.util.specs.Reader.{Reader, done, Outcome, accepted, refused, pick, ends, run, bind, each}
-use Rattle.util.specs.ReaderCode.{reach_of}
+use Rattle.std.specs.Prelude.{Result, Ok, Err}
+use Rattle.util.specs.declared.refusal.Refusal.{Refusal}
+use Rattle.util.specs.ReaderCode.{outcome, reached, reach_of}
 use Rattle.util.proofs.Cut.{le_or_lt, had, short}
 use Rattle.util.proofs.Calls.{after, run_bind, run_bind_as}
 use Rattle.util.proofs.ViewLaws.{view-length, view_there}
 use Rattle.matrix.specs.declared.Mat3.{Mat3}
 use Rattle.animation.specs.declared.Tables.{Tables}
 use Rattle.animation.specs.Animation.{referred, reference}
-use Rattle.animation.specs.AnimationCode.{reference_end, matrix_for, reach_to, turned_over, greatest_of, marked_end, last_end}
+use Rattle.animation.specs.AnimationCode.{reference_end, matrix_for, ReachesTo, turned_over, greatest_of, marked_end, last_end}
 use Rattle.animation.proofs.RotationLaws.{reference_run}
 
 -- ---- how far a part reaches
 
-pub reach_short : (e n m : ℕ) → n < e → Refused 2 ≡ reach_to e n m
+abbrev reach_to : ℕ → ℕ → ℕ → Outcome (Unit {0})
+reach_to e n m = cond (leb e n) (accepted (max m e) tt) (refused 2)
+
+reach_short : (e n m : ℕ) → n < e → refused 2 ≡ reach_to e n m
 reach_short e n m h = simp (lt-leb e n h) refl
 
-pub reach_whole : (e n m far : ℕ) → far ≡ max m e → e ≤ n → Whole far ≡ reach_to e n m
-reach_whole e n m far g h = simp (le-leb e n h) (ap Whole g)
+reach_whole : (e n m far : ℕ) → far ≡ max m e → e ≤ n → accepted far tt ≡ reach_to e n m
+reach_whole e n m far g h = simp (le-leb e n h) (ap (λ (j : ℕ). accepted j tt) g)
+
+-- .. by what the code answers
+code_reach : (e n m : ℕ) (x : Result ℕ Refusal) → ReachesTo e n m x → outcome reached x ≡ reach_to e n m
+code_reach e n m (Ok far) h = reach_whole e n m far h.1 h.0
+code_reach e n m (Err r) h = rw h.1 (reach_short e n m h.0)
 
 part_reach : {A : Type 0} (e n m : ℕ) (a : A) → reach_of (ends e n (accepted (max m e) a)) ≡ reach_to e n m
 unfolding ends
 part_reach e n m a = go (leb e n)
   where
-    go : (b : Bool) → reach_of (pick b (accepted (max m e) a)) ≡ cond b (Whole (max m e)) (Refused 2)
+    go : (b : Bool) → reach_of (pick b (accepted (max m e) a)) ≡ cond b (accepted (max m e) tt) (refused 2)
     go true = refl
     go false = refl
 
@@ -58,8 +66,8 @@ module _ (t : Tables) (s : List ℕ) where
   ref x = reference t.pivot t.basis x
 
   -- of one reference
-  pub one_reach : (x m e : ℕ) → e ≡ reference_end t x → reach_to e (length s) m ≡ reach_of (run (ref x) s m)
-  one_reach x m e q = ap (λ (k : ℕ). reach_to k (length s) m) q ∙ sym (ap reach_of (reference_run t x s m) ∙ part_reach (reference_end t x) (length s) m (matrix_for t s x))
+  pub one_reach : (x m e : ℕ) → e ≡ reference_end t x → (y : Result ℕ Refusal) → ReachesTo e (length s) m y → outcome reached y ≡ reach_of (run (ref x) s m)
+  one_reach x m e q y h = code_reach e (length s) m y h ∙ ap (λ (k : ℕ). reach_to k (length s) m) q ∙ sym (ap reach_of (reference_run t x s m) ∙ part_reach (reference_end t x) (length s) m (matrix_for t s x))
 
   with_first : (v : Mat3) (o : Outcome (List Mat3)) → reach_of (after o (λ j ms. accepted j (v ∷ ms))) ≡ reach_of o
   unfolding after
@@ -81,8 +89,8 @@ module _ (t : Tables) (s : List ℕ) where
       (le_or_lt e (length s))
 
   -- .. of all of them
-  pub all_reach : (xs : List ℕ) (m e : ℕ) → e ≡ greatest_of (reference_end t) xs → reach_to e (length s) m ≡ reach_of (run (each ref xs) s m)
-  all_reach xs m e q = ap (λ (k : ℕ). reach_to k (length s) m) q ∙ sym (followed xs m)
+  pub all_reach : (xs : List ℕ) (m e : ℕ) → e ≡ greatest_of (reference_end t) xs → (y : Result ℕ Refusal) → ReachesTo e (length s) m y → outcome reached y ≡ reach_of (run (each ref xs) s m)
+  all_reach xs m e q y h = code_reach e (length s) m y h ∙ ap (λ (k : ℕ). reach_to k (length s) m) q ∙ sym (followed xs m)
 
 -- ---- the last record by the greatest references
 
@@ -92,19 +100,6 @@ bit_clear y h = (let q : y / 2 ^ 15 % 2 ^ 1 ≡ 0 = omega arith in rw q refl, om
 
 bit_set : (y : ℕ) → 32768 ≤ y → y < 65536 → (bit y 15 ≡ true) × (bits y 0 15 ≡ y - 32768)
 bit_set y l h = (let q : y / 2 ^ 15 % 2 ^ 1 ≡ 1 = omega arith in rw q refl, omega arith)
-
-pub turn_over : (x : ℕ) → x < 65536 → bit_xor x 32768 ≡ turned_over x
-turn_over x h =
-    ⊎_elim
-    (λ l.
-    let r = x - 32768 in
-    let e : x ≡ 1 * 2 ^ 15 + r = omega arith in
-    let q : 0 + r ≡ turned_over x = omega arith in
-    ap (λ (y : ℕ). bit_xor y 32768) e ∙ (xor_block 15 1 1 r 0 (omega arith) (lit< tt) ∙ (ap (λ (y : ℕ). 0 + y) (xor_zero_r r) ∙ q)))
-    (λ l.
-    let q : 1 * 2 ^ 15 + x ≡ turned_over x = omega arith in
-    xor_comm x 32768 ∙ (xor_shifted 1 15 x l ∙ q))
-    (le_or_lt 32768 x)
 
 -- where a record ends of the data at z, whose records have k bytes: that of the number below bit 15, where bit 15 is set
 module _ (k z : ℕ) where
@@ -199,9 +194,6 @@ module _ (s : List ℕ) (at n : ℕ) where
   -- what is left from reference i on, after references whose greatest are p and q: for every pair of tables
   abbrev pub Left : ℕ → ℕ → ℕ → Type 0
   Left i p q = (t : Tables) → max (last_end t (record { plain = p; turned = q })) (greatest_of (reference_end t) (drop i here)) ≡ greatest_of (reference_end t) here
-
-  pub left_all : Left 0 0 0
-  left_all t = omega arith
 
   pub left_next : (i p q x : ℕ) → i < n → x ≡ word_at 2 s (at + 2 * i) → p < 65536 → q < 65536 → x < 65536 → Left i p q → Left (i + 1) (max p x) (max q (turned_over x))
   unfolding greatest_of

@@ -2,15 +2,11 @@
 use Prim.Native.Nat.{ℕ, ◌+◌, ◌*◌, max, ◌≤◌, ◌<◌}
 use mathlib.Core.Bool.{Bool, true, false, not, cond}
 use mathlib.Core.List.{List}
-use mathlib.Core.Path.{◌≡◌, refl, sym, ap, subst, ◌∙◌}
+use mathlib.Core.Path.{◌≡◌, refl, sym, ap, ◌∙◌}
 use native.Mathlib.Omega.{arith}
 use borrow.Author.Tests.{le-leb, lt-leb, eq-eqb, ne_eqb}
 use lib.Dec.{eqb, leb, lit≤}
 use lib.ListN.{length, take, drop}
-use Rattle.util.specs.declared.cur.Reach.{Reach}
-use Rattle.util.specs.declared.cur.Tally.{Tally}
-use Rattle.util.specs.declared.cur.Tally.TheVariants.{Whole, Refused}
-use Rattle.animation.specs.declared.ObjectRead.{ObjectRead}
 use Rattle.animation.specs.declared.Tables.{Tables}
 use Rattle.animation.specs.declared.TRSCurves.{TRSCurves}
 use Rattle.animation.specs.declared.Triple.{Triple as CodeTriple}
@@ -26,7 +22,7 @@ use Rattle.util.proofs.Each.{counted_of, uncounted_of, from_zero, each_read}
 use Rattle.util.proofs.Calls.{after, run_bind}
 use Rattle.curve.proofs.SampleLaws.{first_numbers_lem, first_inside}
 use Rattle.animation.specs.Animation.{Object, still_object, Triple, translation, scale, axes_of, first_numbers, sampled_of, numbers_of, animated, object, object_samples, Animation, animation_stamp, most_objects, animation}
-use Rattle.animation.specs.AnimationCode.{triple_means, triple_curves, InsideTriple, axis_curves, InsideAxes, object_curves, InsideObject, CountedObject, ObjectReads, still_curves, refused_object, curves_of, tables_at, objects_at, WholeAnimation}
+use Rattle.animation.specs.AnimationCode.{triple_means, triple_curves, InsideTriple, axis_curves, InsideAxes, object_curves, InsideObject, CountedObject, still_curves, curves_of, tables_at, objects_at, WholeAnimation}
 use Rattle.animation.proofs.RotationLaws.{both_words}
 
 -- ---- an object: its flags and two bytes, then what the flags say
@@ -52,11 +48,8 @@ module _ (pivot basis p m : ℕ) (s : List ℕ) where
       ∙ ap (λ (x : Bool). run (by x flags) s far) (sym q)))
 
 -- the curves of an object that nothing animates stand, and have no values
-pub still_counted : {r : Reach} (t : Tables) (s : List ℕ) → CountedObject t s (record { reach = r; samples = 0; curves = still_curves })
+pub still_counted : {r : ℕ} (t : Tables) (s : List ℕ) → CountedObject t s (record { reach = r; samples = 0; curves = still_curves })
 still_counted t s = record { inside = record { trans = record { x = tt; y = tt; z = tt }; rotation = tt; scale = record { x = tt; y = tt; z = tt } }; samples = refl }
-
-pub object_refused : {r : Reader Object} {t : Tables} {s : List ℕ} {m n : ℕ} {x : ObjectRead} → x ≡ refused_object n → run r s m ≡ refused n → ObjectReads r t s m x
-object_refused {r} {t} {s} {m} q e = subst (ObjectReads r t s m) (sym q) (record { reads = e; holds = still_counted t s })
 
 -- ---- the entry
 
@@ -100,7 +93,7 @@ module _ (s : List ℕ) where
             unfolding run bind unless
             many_objects l = header_read ∙ rw (sym q ∙ k, ne_eqb (word_at 2 s 4) 0 (λ y. z (g ∙ y)), lt-leb n most_objects l) refl
 
-            module _ (l : n ≤ most_objects) (t : Tables) (et : t ≡ tables_at s) (r : Tally) (w : r ≡ tally_of (total object_samples) (run (each (object t.pivot t.basis) (view 2 little n (drop 20 s))) s (20 + 2 * n))) where
+            module _ (l : n ≤ most_objects) (t : Tables) (et : t ≡ tables_at s) where
               abbrev all : Outcome (List Object)
               all = run (objects_at s n) s (20 + 2 * n)
 
@@ -113,17 +106,21 @@ module _ (s : List ℕ) where
                   header_read
                   ∙ rw (sym q ∙ k, ne_eqb (word_at 2 s 4) 0 (λ y. z (g ∙ y)), le-leb n most_objects l) (run_bind (objects_at s n) (λ os. done (record { frames = word_at 2 s 4; objects = os })) s (20 + 2 * n))
 
-              followed : r ≡ tally_of (total object_samples) all
-              followed = w ∙ ap (λ (x : Tables). tally_of (total object_samples) (run (each (object x.pivot x.basis) (view 2 little n (drop 20 s))) s (20 + 2 * n))) et
+              -- what the code counts of the objects, with its tables
+              abbrev counted : Tables → Outcome ℕ
+              counted x = tally_of (total object_samples) (run (each (object x.pivot x.basis) (view 2 little n (drop 20 s))) s (20 + 2 * n))
 
-              pub objects_refused : (c : ℕ) → r ≡ Refused c → run animation s 0 ≡ refused c
+              followed : {r : Outcome ℕ} → r ≡ counted t → r ≡ tally_of (total object_samples) all
+              followed w = w ∙ ap counted et
+
+              pub objects_refused : (c : ℕ) → refused c ≡ counted t → run animation s 0 ≡ refused c
               unfolding after
-              objects_refused c x = few_objects ∙ ap entry (uncounted_of _ all c (sym followed ∙ x))
+              objects_refused c x = few_objects ∙ ap entry (uncounted_of _ all c (sym (followed x)))
 
-              pub objects_whole : (far samples : ℕ) → r ≡ Whole far samples → WholeAnimation s (record { frames = f; objects = n; tables = t; reach = far; samples = samples })
+              pub objects_whole : (far samples : ℕ) → accepted far samples ≡ counted t → WholeAnimation s (record { frames = f; objects = n; tables = t; reach = far; samples = samples })
               unfolding after
               objects_whole far samples x =
-                  let o = counted_of (total object_samples) all far samples (sym followed ∙ x) in
+                  let o = counted_of (total object_samples) all far samples (sym (followed x)) in
                   record {
                     held = record { frames = word_at 2 s 4; objects = o.0 };
                     reads = few_objects ∙ ap entry o.1;

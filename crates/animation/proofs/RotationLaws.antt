@@ -7,14 +7,11 @@ use native.Mathlib.Nat.{mod-lt, le_refl}
 use native.Mathlib.Omega.{arith}
 use lib.ListN.{length, drop, get_or, length-map}
 use lib.Pow.{pow_pos}
-use Rattle.util.specs.declared.cur.Reach.{Reach}
-use Rattle.util.specs.declared.cur.Reach.TheVariants.{Whole, Refused}
+use Rattle.std.specs.Prelude.{Ok}
 use Rattle.matrix.specs.declared.Mat3.{Mat3}
 use Rattle.matrix.specs.Matrix.{identity3}
 use Rattle.animation.specs.declared.Tables.{Tables}
-use Rattle.animation.specs.declared.Referred.{Referred as CodeReferred}
 use Rattle.animation.specs.declared.RotationCurve.{RotationCurve}
-use Rattle.animation.specs.declared.RotationRead.{RotationRead}
 use Rattle.curve.specs.declared.SampleList.{SampleList}
 use Rattle.util.specs.Bits.{bits, bit}
 use Rattle.util.specs.View.{little, word_at, view}
@@ -26,8 +23,8 @@ use Rattle.util.proofs.Each.{whole_of, refused_of, each_read}
 use Rattle.util.proofs.Calls.{after, run_bind, accepted_first}
 use Rattle.curve.specs.Curve.{Curve, constant, samples}
 use Rattle.curve.specs.CurveCode.{list_means}
-use Rattle.animation.specs.Animation.{start_of, end_of, values_of, list_of, Referred, pivot_record, basis_record, referred, reference, rotation_list, rotation}
-use Rattle.animation.specs.AnimationCode.{code_list, referred_means, reference_end, matrix_for, references, RotationReads}
+use Rattle.animation.specs.Animation.{start_of, end_of, values_of, list_of, pivot_record, basis_record, referred, reference, rotation_list, rotation}
+use Rattle.animation.specs.AnimationCode.{code_list, reference_end, matrix_for, references, RotationReads}
 use Rattle.animation.proofs.ScalarLaws.{rate_le}
 
 -- the reach after two words side by side
@@ -52,14 +49,6 @@ module _ (t : Tables) (x : ℕ) where
       go : (y : Bool) → (cond y (pivot_record (t.pivot + 6 * bits x 0 15)) (basis_record (t.basis + 10 * bits x 0 15))).place + (cond y (pivot_record (t.pivot + 6 * bits x 0 15)) (basis_record (t.basis + 10 * bits x 0 15))).size < 8589934592
       go true = let h = mod-lt x (pow_pos 15) in omega arith
       go false = let h = mod-lt x (pow_pos 15) in omega arith
-
-  -- the code's place and bytes lead there
-  pub end_of_lem : (r : CodeReferred) → referred_means r ≡ referred t.pivot t.basis x → r.size ≡ (referred t.pivot t.basis x).size → r.place + r.size ≡ reference_end t x
-  end_of_lem r e n = ap (λ (p : ℕ). p + r.size) (go r.pivot r.place ∙ ap (λ (y : Referred). y.place) e) ∙ ap (λ (n : ℕ). (referred t.pivot t.basis x).place + n) n
-    where
-      go : (y : Bool) (p : ℕ) → p ≡ (cond y (pivot_record p) (basis_record p)).place
-      go true p = refl
-      go false p = refl
 
   -- what bit 15 tells apart
   pub refers : (y : Bool) → y ≡ bit x 15 → (i : ℕ) → i ≡ bits x 0 15 → referred t.pivot t.basis x ≡ cond y (pivot_record (t.pivot + 6 * i)) (basis_record (t.basis + 10 * i))
@@ -118,21 +107,21 @@ module _ (t : Tables) (p m : ℕ) (s : List ℕ) where
       (ap (λ (j : ℕ). run (bind (reference t.pivot t.basis (word_at 2 s p)) (λ v. done (constant v, p + 4))) s j) (both_words p m)
       ∙ run_bind (reference t.pivot t.basis (word_at 2 s p)) (λ v. done (constant v, p + 4)) s (max m (p + 4))))
 
-  module _ (h : p + 4 ≤ length s) (x : ℕ) (e : x ≡ word_at 2 s p) (j : ℕ) (g : j ≡ max m (p + 4)) (r : Reach) (q : r ≡ reach_of (run (reference t.pivot t.basis x) s j)) where
+  module _ (h : p + 4 ≤ length s) (x : ℕ) (e : x ≡ word_at 2 s p) (j : ℕ) (g : j ≡ max m (p + 4)) where
     here : run turned s m ≡ after (run (reference t.pivot t.basis x) s j) (λ j v. accepted j (constant v, p + 4))
     here =
         constant_rotation h
         ∙ (ap (λ (i : ℕ). after (run (reference t.pivot t.basis (word_at 2 s p)) s i) (λ j v. accepted j (constant v, p + 4))) (sym g)
         ∙ ap (λ (y : ℕ). after (run (reference t.pivot t.basis y) s j) (λ j v. accepted j (constant v, p + 4))) (sym e))
 
-    pub constant_rotation_refused : (n : ℕ) → r ≡ Refused n → run turned s m ≡ refused n
+    pub constant_rotation_refused : (n : ℕ) → refused n ≡ reach_of (run (reference t.pivot t.basis x) s j) → run turned s m ≡ refused n
     unfolding after
-    constant_rotation_refused n k = here ∙ ap (λ (o : Outcome Mat3). after o (λ j v. accepted j (constant v, p + 4))) (refused_of (run (reference t.pivot t.basis x) s j) n (sym q ∙ k))
+    constant_rotation_refused n k = here ∙ ap (λ (o : Outcome Mat3). after o (λ j v. accepted j (constant v, p + 4))) (refused_of (run (reference t.pivot t.basis x) s j) n (sym k))
 
-    pub constant_rotation_whole : (far : ℕ) → r ≡ Whole far → RotationReads turned t s m (p + 8) (RotationRead.Whole (RotationCurve.Constant x) (record { pos = p + 4; reach = far }))
+    pub constant_rotation_whole : (far : ℕ) → accepted far tt ≡ reach_of (run (reference t.pivot t.basis x) s j) → RotationReads turned t s m (p + 8) (Ok (RotationCurve.Constant x, record { pos = p + 4; reach = far }))
     unfolding after
     constant_rotation_whole far k =
-        let w = whole_of (run (reference t.pivot t.basis x) s j) far (sym q ∙ k) in
+        let w = whole_of (run (reference t.pivot t.basis x) s j) far (sym k) in
         let v = record_read t x s j far w.0 w.1 in
         record {
           reads = here ∙ (ap (λ (o : Outcome Mat3). after o (λ j v. accepted j (constant v, p + 4))) w.1 ∙ ap (λ (y : Mat3). accepted far (constant y, p + 4)) v.0);
@@ -161,7 +150,7 @@ module _ (t : Tables) (w off next m : ℕ) (s : List ℕ) where
       (rw (view-take 2 little (values_of w) (drop off s))
       (run_bind (each (ref t s) (view 2 little (values_of w) (drop off s))) (λ ms. done (samples (list_of w off 2) ms, next)) s (max m (off + 2 * values_of w))))
 
-  module _ (l : SampleList) (q : l ≡ code_list w off 2) (h : off + 2 * l.length ≤ length s) (j : ℕ) (g : j ≡ max m (off + 2 * l.length)) (r : Reach) (z : r ≡ reach_of (followed l.length j)) where
+  module _ (l : SampleList) (q : l ≡ code_list w off 2) (h : off + 2 * l.length ≤ length s) (j : ℕ) (g : j ≡ max m (off + 2 * l.length)) where
     count : l.length ≡ values_of w
     count = ap (λ (x : SampleList). x.length) q
 
@@ -171,14 +160,14 @@ module _ (t : Tables) (w off next m : ℕ) (s : List ℕ) where
         ∙ (ap (λ (n : ℕ). after_list (followed n (max m (off + 2 * n)))) (sym count)
         ∙ ap (λ (i : ℕ). after_list (followed l.length i)) (sym g))
 
-    pub references_refused : (n : ℕ) → r ≡ Refused n → run turns s m ≡ refused n
+    pub references_refused : (n : ℕ) → refused n ≡ reach_of (followed l.length j) → run turns s m ≡ refused n
     unfolding after
-    references_refused n k = there ∙ ap after_list (refused_of (followed l.length j) n (sym z ∙ k))
+    references_refused n k = there ∙ ap after_list (refused_of (followed l.length j) n (sym k))
 
-    pub references_whole : start_of w < end_of w → (far : ℕ) → r ≡ Whole far → RotationReads turns t s m next (RotationRead.Whole (RotationCurve.Samples l) (record { pos = next; reach = far }))
+    pub references_whole : start_of w < end_of w → (far : ℕ) → accepted far tt ≡ reach_of (followed l.length j) → RotationReads turns t s m next (Ok (RotationCurve.Samples l, record { pos = next; reach = far }))
     unfolding after
     references_whole f far k =
-        let v = whole_of (followed l.length j) far (sym z ∙ k) in
+        let v = whole_of (followed l.length j) far (sym k) in
         let ms = matrices t s (view 2 little l.length (drop off s)) _ _ _ v.1 in
         let place : off ≡ l.place = ap (λ (x : SampleList). x.place) (sym q) in
         record {

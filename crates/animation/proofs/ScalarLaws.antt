@@ -3,7 +3,7 @@ use Prim.Native.Nat.{ℕ, ◌+◌, ◌-◌, ◌*◌, ◌/◌, ◌^◌, max, ◌�
 use mathlib.Core.Bool.{true}
 use mathlib.Core.List.{List}
 use mathlib.Core.Path.{◌≡◌, refl, sym, ap, subst, ◌∙◌}
-use native.Mathlib.Nat.{mul-le-mul, mod-lt, div-le_self, div-add-mod', le_refl}
+use native.Mathlib.Nat.{mod-lt, div-le_self, div-add-mod', le_refl}
 use native.Mathlib.Omega.{arith}
 use borrow.Author.Tests.{le-ltb, lt-ltb}
 use lib.ListN.{length, take, drop}
@@ -13,7 +13,7 @@ use Rattle.util.specs.Reader.{accepted, refused, run, bind, unless}
 use Rattle.util.proofs.Cut.{had, short, to}
 use Rattle.util.proofs.ViewLaws.{view-take}
 use Rattle.util.specs.Fixed.{Fix, fix1_19_12}
-use Rattle.animation.specs.declared.ScalarRead.{ScalarRead}
+use Rattle.std.specs.Prelude.{Ok}
 use Rattle.curve.specs.declared.SampleList.{SampleList}
 use Rattle.curve.specs.declared.ScalarCurve.{ScalarCurve}
 use Rattle.curve.specs.declared.Number.{Number}
@@ -92,10 +92,6 @@ number_fits : (t : Triple) (f : Fix) → number_bytes f ≤ number_bytes f * num
 number_fits translation f = omega arith
 number_fits scale f = omega arith
 
--- a list's bytes do not wrap
-pub bytes_small : (z n : ℕ) → z ≤ 65535 → n ≤ 65535 → z * n ≤ 65535 * 65535
-bytes_small z n h k = mul-le-mul h k
-
 module _ (t : Triple) (w off next m : ℕ) (s : List ℕ) where
   abbrev end : ℕ
   end = off + value_size t w * values_of w
@@ -133,7 +129,7 @@ module _ (t : Triple) (w off next m : ℕ) (s : List ℕ) where
         subst (λ (f : Fix). number_bytes f * numbers_of t ≤ value_size t w) (sym k) (le_refl (value_size t w)),
       )
 
-      pub code_whole : ScalarReads t (scalar_list t w off next) s m next (ScalarRead.Whole (ScalarCurve.Samples l n) (record { pos = next; reach = far }))
+      pub code_whole : ScalarReads t (scalar_list t w off next) s m next (Ok (ScalarCurve.Samples l n, record { pos = next; reach = far }))
       code_whole =
           record {
             reads =

@@ -1,11 +1,12 @@
 -- What the code answers: where the curves of an entry stand. Assumes nothing.
-use Rattle.std.specs.Prelude.{ℕ, ◌+◌, ◌*◌, ◌%◌, max, ◌≤◌, ◌<◌, cond, List, [], ◌∷◌, map, ◌≡◌, leb, length, take, drop, get_or}
+use Rattle.std.specs.Prelude.{ℕ, ◌+◌, ◌*◌, ◌%◌, max, ◌≤◌, ◌<◌, cond, List, [], ◌∷◌, map, ◌≡◌, Result, Ok, Err, length, take, drop, get_or}
 use Rattle.util.specs.View.{little, word_at, view}
-use Rattle.util.specs.Reader.{Reader, Outcome, accepted, refused, run, each}
-use Rattle.util.specs.ReaderCode.{reached, Reads}
+use Rattle.util.specs.Reader.{Reader, Outcome, accepted, run, each}
+use Rattle.util.specs.ReaderCode.{Reads}
 use Rattle.util.specs.Sums.{total}
-use Rattle.util.specs.declared.cur.Reach.{Reach}
-use Rattle.util.specs.declared.cur.Reach.TheVariants.{Whole, Refused}
+use Rattle.util.specs.declared.cur.Cur.{Cur}
+use Rattle.util.specs.declared.refusal.Refusal.{Refusal}
+use Rattle.util.specs.declared.refusal.Refusal.TheVariants.{TooShort}
 use Rattle.util.specs.Bits.{bit}
 use Rattle.animation.specs.declared.Triple.{Triple as CodeTriple}
 use Rattle.animation.specs.declared.Triple.TheVariants.{Translation, Scale}
@@ -13,15 +14,12 @@ use Rattle.animation.specs.declared.Tables.{Tables}
 use Rattle.animation.specs.declared.Referred.{Referred as CodeReferred}
 use Rattle.animation.specs.declared.Greatest.{Greatest}
 use Rattle.animation.specs.declared.Animation.{Animation as Known}
-use Rattle.animation.specs.declared.AnimationRead.{AnimationRead}
 use Rattle.animation.specs.declared.AxisCurves.{AxisCurves}
 use Rattle.animation.specs.declared.RotationCurve.{RotationCurve}
-use Rattle.animation.specs.declared.FieldsRead.{FieldsRead}
-use Rattle.animation.specs.declared.ScalarRead.{ScalarRead}
+use Rattle.animation.specs.declared.Fields.{Fields}
 use Rattle.animation.specs.declared.AxesRead.{AxesRead}
 use Rattle.animation.specs.declared.TRSCurves.{TRSCurves}
 use Rattle.animation.specs.declared.ObjectRead.{ObjectRead}
-use Rattle.animation.specs.declared.RotationRead.{RotationRead}
 use Rattle.curve.specs.declared.SampleList.{SampleList}
 use Rattle.curve.specs.declared.ScalarCurve.{ScalarCurve}
 use Rattle.matrix.specs.declared.Mat3.{Mat3}
@@ -33,31 +31,32 @@ abbrev pub triple_means : CodeTriple → Triple
 triple_means Translation = translation
 triple_means Scale = scale
 
+-- how far a part reaches that ends at e, in n bytes, after parts that reach as far as m
+abbrev pub ReachesTo : ℕ → ℕ → ℕ → Result ℕ Refusal → Type 0
+ReachesTo e n m (Ok far) = (e ≤ n) × (far ≡ max m e)
+ReachesTo e n m (Err r) = (n < e) × (r ≡ TooShort)
+
 -- ---- scalar curves
 
-abbrev pub fields_means : FieldsRead → Outcome (ℕ × ℕ)
-fields_means (FieldsRead.Whole w off m) = accepted m (w, off)
-fields_means (FieldsRead.Refused n) = refused n
+abbrev pub fields_means : Fields → Outcome (ℕ × ℕ)
+fields_means f = accepted f.reach (f.word, f.offset)
 
-abbrev pub Forward : FieldsRead → Type 0
-Forward (FieldsRead.Whole w off m) = start_of w < end_of w
-Forward (FieldsRead.Refused n) = Unit {0}
+abbrev pub Forward : Fields → Type 0
+Forward f = start_of f.word < end_of f.word
 
 -- the list of a curve word, as the code has it
 abbrev pub code_list : ℕ → ℕ → ℕ → SampleList
 code_list w place size = record { start = start_of w; end = end_of w; place = place; length = values_of w; size = size; rate = rate_of w }
 
 -- a curve of the triple, and where reading stands after it
-abbrev pub scalar_means : (t : Triple) → List ℕ → ScalarRead → Outcome (Curve (Value t) × ℕ)
-scalar_means t s (ScalarRead.Whole c at) = accepted at.reach (curve_in (value_from t) s c, at.pos)
-scalar_means t s (ScalarRead.Refused n) = refused n
+abbrev pub scalar_means : (t : Triple) → List ℕ → ScalarCurve × Cur → Outcome (Curve (Value t) × ℕ)
+scalar_means t s x = accepted x.1.reach (curve_in (value_from t) s x.0, x.1.pos)
 
 -- the next field stands at `most` or before
-abbrev pub ScalarInside : Triple → List ℕ → ℕ → ScalarRead → Type 0
-ScalarInside t s most (ScalarRead.Whole c at) = InsideOf (numbers_of t) s c × (at.pos ≤ most)
-ScalarInside t s most (ScalarRead.Refused n) = Unit {0}
+abbrev pub ScalarInside : Triple → List ℕ → ℕ → ScalarCurve × Cur → Type 0
+ScalarInside t s most x = InsideOf (numbers_of t) s x.0 × (x.1.pos ≤ most)
 
-abbrev pub ScalarReads : (t : Triple) → Reader (Curve (Value t) × ℕ) → List ℕ → ℕ → ℕ → ScalarRead → Type 0
+abbrev pub ScalarReads : (t : Triple) → Reader (Curve (Value t) × ℕ) → List ℕ → ℕ → ℕ → Result (ScalarCurve × Cur) Refusal → Type 0
 ScalarReads t r s reach most x = Reads (scalar_means t s) (ScalarInside t s most) r s reach x
 
 -- ---- three axes
@@ -81,15 +80,13 @@ pub record InsideAxes (s : List ℕ) (a : AxisCurves) : Type 0 where
   pub z : Inside s a.z
 
 abbrev pub axes_means : (t : Triple) → List ℕ → AxesRead → Outcome (PerAxis (Value t) × ℕ)
-axes_means t s (AxesRead.Whole a at n) = accepted at.reach (triple_curves t s a, at.pos)
-axes_means t s (AxesRead.Refused n) = refused n
+axes_means t s a = accepted a.at.reach (triple_curves t s a.curves, a.at.pos)
 
--- .. and n is how many values their lists have
+-- .. and their lists' values are counted
 abbrev pub AxesInside : Triple → List ℕ → ℕ → AxesRead → Type 0
-AxesInside t s most (AxesRead.Whole a at n) = InsideTriple t s a × (at.pos ≤ most) × (n ≡ axes_samples (triple_curves t s a))
-AxesInside t s most (AxesRead.Refused n) = Unit {0}
+AxesInside t s most a = InsideTriple t s a.curves × (a.at.pos ≤ most) × (a.samples ≡ axes_samples (triple_curves t s a.curves))
 
-abbrev pub AxesReads : (t : Triple) → Reader (PerAxis (Value t) × ℕ) → List ℕ → ℕ → ℕ → AxesRead → Type 0
+abbrev pub AxesReads : (t : Triple) → Reader (PerAxis (Value t) × ℕ) → List ℕ → ℕ → ℕ → Result AxesRead Refusal → Type 0
 AxesReads t r s reach most x = Reads (axes_means t s) (AxesInside t s most) r s reach x
 
 abbrev pub no_curves : AxisCurves
@@ -98,15 +95,12 @@ no_curves = record { x = ScalarCurve.None; y = ScalarCurve.None; z = ScalarCurve
 -- ---- rotations
 
 abbrev pub referred_means : CodeReferred → Referred
-referred_means r = cond r.pivot (pivot_record r.place) (basis_record r.place)
+referred_means (CodeReferred.Pivot place) = pivot_record place
+referred_means (CodeReferred.Basis place) = basis_record place
 
 -- where the record ends that a reference leads to
 abbrev pub reference_end : Tables → ℕ → ℕ
 reference_end t x = (referred t.pivot t.basis x).place + (referred t.pivot t.basis x).size
-
--- how far a part reaches that ends at e, in n bytes, after parts that reach as far as m
-abbrev pub reach_to : ℕ → ℕ → ℕ → Reach
-reach_to e n m = cond (leb e n) (Whole (max m e)) (Refused 2)
 
 -- a u16 with bit 15 turned
 abbrev pub turned_over : ℕ → ℕ
@@ -153,15 +147,13 @@ InsideRotation t s RotationCurve.None = Unit {0}
 InsideRotation t s (RotationCurve.Constant x) = reference_end t x ≤ length s
 InsideRotation t s (RotationCurve.Samples l) = InsideReferences t s l
 
-abbrev pub rotation_means : Tables → List ℕ → RotationRead → Outcome (Curve Mat3 × ℕ)
-rotation_means t s (RotationRead.Whole c at) = accepted at.reach (rotation_curve t s c, at.pos)
-rotation_means t s (RotationRead.Refused n) = refused n
+abbrev pub rotation_means : Tables → List ℕ → RotationCurve × Cur → Outcome (Curve Mat3 × ℕ)
+rotation_means t s x = accepted x.1.reach (rotation_curve t s x.0, x.1.pos)
 
-abbrev pub RotationInside : Tables → List ℕ → ℕ → RotationRead → Type 0
-RotationInside t s most (RotationRead.Whole c at) = InsideRotation t s c × (at.pos ≤ most)
-RotationInside t s most (RotationRead.Refused n) = Unit {0}
+abbrev pub RotationInside : Tables → List ℕ → ℕ → RotationCurve × Cur → Type 0
+RotationInside t s most x = InsideRotation t s x.0 × (x.1.pos ≤ most)
 
-abbrev pub RotationReads : Reader (Curve Mat3 × ℕ) → Tables → List ℕ → ℕ → ℕ → RotationRead → Type 0
+abbrev pub RotationReads : Reader (Curve Mat3 × ℕ) → Tables → List ℕ → ℕ → ℕ → Result (RotationCurve × Cur) Refusal → Type 0
 RotationReads r t s reach most x = Reads (rotation_means t s) (RotationInside t s most) r s reach x
 
 -- ---- objects
@@ -175,21 +167,18 @@ pub record InsideObject (t : Tables) (s : List ℕ) (c : TRSCurves) : Type 0 whe
   pub scale : InsideTriple scale s c.scale
 
 abbrev pub object_means : Tables → List ℕ → ObjectRead → Outcome Object
-object_means t s x = reached x.reach (object_curves t s x.curves)
+object_means t s x = accepted x.reach (object_curves t s x.curves)
 
 -- an object's curves stand in the section, and are counted
 pub record CountedObject (t : Tables) (s : List ℕ) (x : ObjectRead) : Type 0 where
   pub inside : InsideObject t s x.curves
   pub samples : x.samples ≡ object_samples (object_curves t s x.curves)
 
-abbrev pub ObjectReads : Reader Object → Tables → List ℕ → ℕ → ObjectRead → Type 0
+abbrev pub ObjectReads : Reader Object → Tables → List ℕ → ℕ → Result ObjectRead Refusal → Type 0
 ObjectReads r t s reach x = Reads (object_means t s) (CountedObject t s) r s reach x
 
 abbrev pub still_curves : TRSCurves
 still_curves = record { trans = no_curves; rotation = RotationCurve.None; scale = no_curves }
-
-abbrev pub refused_object : ℕ → ObjectRead
-refused_object n = record { reach = Refused n; samples = 0; curves = still_curves }
 
 -- the curves of a triple
 abbrev pub curves_of : CodeTriple → TRSCurves → AxisCurves
@@ -216,7 +205,3 @@ pub record WholeAnimation (s : List ℕ) (a : Known) : Type 0 where
   pub room : 20 + 2 * a.objects ≤ length s
   pub objects : (m : ℕ) × (run (objects_at s a.objects) s 0 ≡ accepted m held.objects)
   pub inside : a.reach ≤ length s
-
-abbrev pub AnimationIs : List ℕ → AnimationRead → Type 0
-AnimationIs s (AnimationRead.Whole a) = WholeAnimation s a
-AnimationIs s (AnimationRead.Refused n) = run animation s 0 ≡ refused n

@@ -5,17 +5,18 @@ ghost use Rattle.std.specs.Prelude.{true, false, List, ◌≡◌, ℕ, ◌+◌, 
 ghost use Rattle.util.specs.Bits.{bits};
 ghost use Rattle.util.specs.View.{little, view};
 ghost use Rattle.util.specs.Reader.{run, each};
-ghost use Rattle.util.specs.ReaderCode.{reach_of, tally_of, Reads};
+ghost use Rattle.util.specs.ReaderCode.{outcome, reached, tallied, reach_of, tally_of, Reads, IsRead};
 ghost use Rattle.util.specs.Sums.{total};
 ghost use Rattle.curve.specs.Curve.{sample_count};
 ghost use Rattle.curve.specs.CurveCode.{format_means};
-ghost use Rattle.animation.specs.Animation.{numbers_of, left_out_bit, constant_bit, start_of, end_of, width_of, format_of, value_size, list_fields, scalar_list, scalar, axis, axes, animated_axes, reference, rotation_list, rotation, animated_rotation, animated, object, axes_samples, object_samples};
-ghost use Rattle.animation.specs.AnimationCode.{triple_means, fields_means, Forward, code_list, ScalarReads, AxesReads, no_curves, referred_means, reference_end, reach_to, turned_over, greatest_of, marked_end, last_end, triple_curves, rotation_curve, RotationReads, ObjectReads, still_curves, refused_object, tables_at, AnimationIs};
+ghost use Rattle.animation.specs.Animation.{numbers_of, left_out_bit, constant_bit, start_of, end_of, width_of, format_of, value_size, list_fields, scalar_list, scalar, axis, axes, animated_axes, reference, rotation_list, rotation, animated_rotation, animated, object, axes_samples, object_samples, animation};
+ghost use Rattle.animation.specs.AnimationCode.{triple_means, fields_means, Forward, code_list, ScalarReads, AxesReads, no_curves, referred_means, reference_end, ReachesTo, turned_over, greatest_of, marked_end, last_end, triple_curves, rotation_curve, RotationReads, ObjectReads, still_curves, tables_at, WholeAnimation};
 ghost use Rattle.animation.specs.Animation as spec;
 
 use curve::{Number, SampleList, ScalarCurve, sample_count};
-use util::bits::{bit16, bits16, bits32};
-use util::cur::{Cur, Reach, Tally, greater, greater16};
+use util::bits::{bit, bits};
+use util::cur::{Cur, Tally};
+use util::refusal::Refusal;
 use util::view::{starts_with, word16, word32};
 
 // More objects in an animation are refused.
@@ -28,7 +29,7 @@ pub enum Triple {
     Scale,
 }
 
-// Where the pivot and the basis data stand.
+// Where the pivot and the basis data stand. They are handed on beside the section: with both in one struct each contract would name longer paths.
 #[derive(Clone, Copy)]
 pub struct Tables {
     pub pivot: u32,
@@ -59,36 +60,24 @@ pub struct TRSCurves {
 
 // The curve word and the offset of a list, and the reach after them.
 #[derive(Clone, Copy)]
-pub enum FieldsRead {
-    Whole(u32, u32, usize),
-    Refused(u8),
-}
-
-// A curve, and where reading stands after it.
-#[derive(Clone, Copy)]
-pub enum ScalarRead {
-    Whole(ScalarCurve, Cur),
-    Refused(u8),
+pub struct Fields {
+    pub word: u32,
+    pub offset: u32,
+    pub reach: usize,
 }
 
 // The curves of three axes, where reading stands after them, and how many values their lists have.
 #[derive(Clone, Copy)]
-pub enum AxesRead {
-    Whole(AxisCurves, Cur, u32),
-    Refused(u8),
+pub struct AxesRead {
+    pub curves: AxisCurves,
+    pub at: Cur,
+    pub samples: u32,
 }
 
-#[derive(Clone, Copy)]
-pub enum RotationRead {
-    Whole(RotationCurve, Cur),
-    Refused(u8),
-}
-
-// How far an object reaches, its curves, and how many values their lists have: where it is refused, none. Curves inside an enum would be copied
-// out of it at every use, and so they would if their values were counted after they have been put together.
+// How far an object reaches, how many values its lists have, and its curves.
 #[derive(Clone, Copy)]
 pub struct ObjectRead {
-    pub reach: Reach,
+    pub reach: usize,
     pub samples: u64,
     pub curves: TRSCurves,
 }
@@ -103,58 +92,69 @@ pub struct Animation {
     pub samples: u64,
 }
 
-#[derive(Clone, Copy)]
-pub enum AnimationRead {
-    Whole(Animation),
-    Refused(u8),
-}
+impl Triple {
+    // How many numbers a value has.
+    fn numbers(self) -> u8
+        ensures { (result ≡ numbers_of (triple_means self)) × (result ≤ 2) }
+    {
+        match self {
+            Triple::Translation => 1,
+            Triple::Scale => 2,
+        }
+    }
 
-// How many numbers a value of the triple has.
-fn numbers(which: Triple) -> u8
-    ensures { (result ≡ numbers_of (triple_means which)) × (result ≤ 2) }
-{
-    match which {
-        Triple::Translation => 1,
-        Triple::Scale => 2,
+    // The first of the two flag bits that leave the triple out.
+    fn left_out_bit(self) -> u32
+        ensures { (result ≡ left_out_bit (triple_means self)) × (result ≤ 9) }
+    {
+        match self {
+            Triple::Translation => 1,
+            Triple::Scale => 9,
+        }
+    }
+
+    // The flag bit that makes x constant; those of y and z follow.
+    fn constant_bit(self) -> u32
+        ensures { (result ≡ constant_bit (triple_means self)) × (result ≤ 11) }
+    {
+        match self {
+            Triple::Translation => 3,
+            Triple::Scale => 11,
+        }
     }
 }
 
-// The first of the two flag bits that leave the triple out.
-fn left_out_bit(which: Triple) -> u32
-    ensures { (result ≡ left_out_bit (triple_means which)) × (result ≤ 9) }
+// How far a part reaches that ends at `end`.
+fn reach_to(s: &[u8], end: usize, reach: usize) -> Result<usize, Refusal>
+    ensures { ReachesTo end (length s.now) reach result }
 {
-    match which {
-        Triple::Translation => 1,
-        Triple::Scale => 9,
-    }
-}
-
-// The flag bit that makes x constant; those of y and z follow.
-fn constant_bit(which: Triple) -> u32
-    ensures { (result ≡ constant_bit (triple_means which)) × (result ≤ 11) }
-{
-    match which {
-        Triple::Translation => 3,
-        Triple::Scale => 11,
+    if s.len() < end {
+        Err(Refusal::TooShort)
+    } else {
+        Ok(reach.max(end))
     }
 }
 
 // The curve word at p and the offset behind it.
-fn read_fields(s: &[u8], p: usize, reach: usize) -> FieldsRead
+fn read_fields(s: &[u8], p: usize, reach: usize) -> Result<Fields, Refusal>
     requires { p ≤ 1048576 }
     ensures { Reads fields_means Forward (list_fields p) s.now reach result }
 {
     if s.len() < p + 4 {
-        return FieldsRead::Refused(2);
+        return Err(Refusal::TooShort);
     }
-    let w = word32(s, p);
-    if bits32(w, 0, 16) >= bits32(w, 16, 28) {
-        return FieldsRead::Refused(7);
+    let word = word32(s, p);
+    if bits(word, 0, 16) >= bits(word, 16, 28) {
+        return Err(Refusal::ListFrames);
     }
     if s.len() < p + 8 {
-        return FieldsRead::Refused(2);
+        return Err(Refusal::TooShort);
     }
-    FieldsRead::Whole(w, word32(s, p + 4), greater(reach, p + 8))
+    Ok(Fields {
+        word,
+        offset: word32(s, p + 4),
+        reach: reach.max(p + 8),
+    })
 }
 
 // The list of a curve word.
@@ -162,9 +162,9 @@ fn sample_list(w: u32, place: usize, size: u8) -> SampleList
     requires { start_of w < end_of w }
     ensures { result ≡ code_list w place size }
 {
-    let start = bits32(w, 0, 16) as u16;
-    let end = bits32(w, 16, 28) as u16;
-    let rate = bits32(w, 30, 32) as u8;
+    let start = bits(w, 0, 16) as u16;
+    let end = bits(w, 16, 28) as u16;
+    let rate = bits(w, 30, 32) as u8;
     let length = (end - start) >> rate;
     SampleList {
         start,
@@ -179,7 +179,7 @@ fn sample_list(w: u32, place: usize, size: u8) -> SampleList
 fn number_of(w: u32) -> Number
     ensures { format_means result ≡ format_of (width_of w) }
 {
-    if bits32(w, 28, 30) == 0 {
+    if bits(w, 28, 30) == 0 {
         Number::Fix1_19_12
     } else {
         Number::Fix1_3_12
@@ -190,77 +190,67 @@ fn number_of(w: u32) -> Number
 fn value_size(which: Triple, w: u32) -> u8
     ensures { result ≡ value_size (triple_means which) w }
 {
-    if bits32(w, 28, 30) == 0 {
-        4 * numbers(which)
+    if bits(w, 28, 30) == 0 {
+        4 * which.numbers()
     } else {
-        2 * numbers(which)
+        2 * which.numbers()
     }
 }
 
 // A constant.
-fn read_constant(s: &[u8], which: Triple, at: Cur) -> ScalarRead
+fn read_constant(s: &[u8], which: Triple, at: Cur) -> Result<(ScalarCurve, Cur), Refusal>
     requires { at.pos ≤ 1048576 }
     ensures { ScalarReads (triple_means which) (scalar (triple_means which) true at.pos) s.now at.reach (at.pos + 8) result }
 {
-    let pos = at.pos + 4 * numbers(which) as usize;
-    if s.len() < pos {
-        return ScalarRead::Refused(2);
-    }
-    ScalarRead::Whole(
-        ScalarCurve::Constant(at.pos),
-        Cur {
-            pos,
-            reach: greater(at.reach, pos),
-        },
-    )
+    let pos = at.pos + 4 * which.numbers() as usize;
+    let reach = reach_to(s, pos, at.reach)?;
+    Ok((ScalarCurve::Constant(at.pos), Cur { pos, reach }))
 }
 
 // The values of a curve word's list, where its offset points.
-fn read_values(s: &[u8], which: Triple, w: u32, offset: u32, at: Cur) -> ScalarRead
+fn read_values(
+    s: &[u8],
+    which: Triple,
+    w: u32,
+    offset: u32,
+    at: Cur,
+) -> Result<(ScalarCurve, Cur), Refusal>
     requires { start_of w < end_of w }
     ensures { ScalarReads (triple_means which) (scalar_list (triple_means which) w offset at.pos) s.now at.reach at.pos result }
 {
     let size = value_size(which, w);
     let list = sample_list(w, offset as usize, size);
     let end = offset as usize + size as usize * list.length as usize;
-    if s.len() < end {
-        return ScalarRead::Refused(2);
-    }
-    ScalarRead::Whole(
+    let reach = reach_to(s, end, at.reach)?;
+    Ok((
         ScalarCurve::Samples(list, number_of(w)),
-        Cur {
-            pos: at.pos,
-            reach: greater(at.reach, end),
-        },
-    )
+        Cur { pos: at.pos, reach },
+    ))
 }
 
 // A list: its fields, then its values.
-fn read_list(s: &[u8], which: Triple, at: Cur) -> ScalarRead
+fn read_list(s: &[u8], which: Triple, at: Cur) -> Result<(ScalarCurve, Cur), Refusal>
     requires { at.pos ≤ 1048576 }
     ensures { ScalarReads (triple_means which) (scalar (triple_means which) false at.pos) s.now at.reach (at.pos + 8) result }
 {
-    match read_fields(s, at.pos, at.reach) {
-        FieldsRead::Refused(n) => ScalarRead::Refused(n),
-        FieldsRead::Whole(w, offset, reach) => read_values(
-            s,
-            which,
-            w,
-            offset,
-            Cur {
-                pos: at.pos + 8,
-                reach,
-            },
-        ),
-    }
+    let fields = read_fields(s, at.pos, at.reach)?;
+    let pos = at.pos + 8;
+    let reach = fields.reach;
+    read_values(s, which, fields.word, fields.offset, Cur { pos, reach })
 }
 
 // The curve of axis i.
-fn read_axis(s: &[u8], which: Triple, flags: u16, i: u32, at: Cur) -> ScalarRead
+fn read_axis(
+    s: &[u8],
+    which: Triple,
+    flags: u32,
+    i: u32,
+    at: Cur,
+) -> Result<(ScalarCurve, Cur), Refusal>
     requires { (i ≤ 2) × (at.pos ≤ 1048576) }
     ensures { ScalarReads (triple_means which) (axis (triple_means which) flags i at.pos) s.now at.reach (at.pos + 8) result }
 {
-    if bit16(flags, constant_bit(which) + i) {
+    if bit(flags, which.constant_bit() + i) {
         read_constant(s, which, at)
     } else {
         read_list(s, which, at)
@@ -275,48 +265,35 @@ fn axes_samples(x: ScalarCurve, y: ScalarCurve, z: ScalarCurve) -> u32
 }
 
 // The curves of x, y and z, one whole before the next.
-fn read_axes(s: &[u8], which: Triple, flags: u16, at: Cur) -> AxesRead
+fn read_axes(s: &[u8], which: Triple, flags: u32, at: Cur) -> Result<AxesRead, Refusal>
     requires { at.pos ≤ 524288 }
     ensures { AxesReads (triple_means which) (axes (triple_means which) flags at.pos) s.now at.reach (at.pos + 24) result }
 {
-    match read_axis(s, which, flags, 0, at) {
-        ScalarRead::Refused(n) => AxesRead::Refused(n),
-        ScalarRead::Whole(x, y_at) => match read_axis(s, which, flags, 1, y_at) {
-            ScalarRead::Refused(n) => AxesRead::Refused(n),
-            ScalarRead::Whole(y, z_at) => match read_axis(s, which, flags, 2, z_at) {
-                ScalarRead::Refused(n) => AxesRead::Refused(n),
-                ScalarRead::Whole(z, end) => {
-                    AxesRead::Whole(AxisCurves { x, y, z }, end, axes_samples(x, y, z))
-                }
-            },
-        },
-    }
+    let (x, y_at) = read_axis(s, which, flags, 0, at)?;
+    let (y, z_at) = read_axis(s, which, flags, 1, y_at)?;
+    let (z, end) = read_axis(s, which, flags, 2, z_at)?;
+    Ok(AxesRead {
+        curves: AxisCurves { x, y, z },
+        at: end,
+        samples: axes_samples(x, y, z),
+    })
 }
 
-// What a u16 refers to: a record of the pivot or of the basis data, where it stands, and its bytes.
+// What a u16 refers to: a record of the pivot or of the basis data, by where it stands.
 #[derive(Clone, Copy)]
-pub struct Referred {
-    pub pivot: bool,
-    pub place: usize,
-    pub size: usize,
+pub enum Referred {
+    Pivot(usize),
+    Basis(usize),
 }
 
 pub fn refer(t: Tables, x: u16) -> Referred
-    ensures { (referred_means result ≡ spec.referred t.pivot t.basis x) × (result.size ≡ (spec.referred t.pivot t.basis x).size) }
+    ensures { referred_means result ≡ spec.referred t.pivot t.basis x }
 {
-    let number = bits16(x, 0, 15) as usize;
-    if bit16(x, 15) {
-        Referred {
-            pivot: true,
-            place: t.pivot as usize + 6 * number,
-            size: 6,
-        }
+    let number = bits(x as u32, 0, 15) as usize;
+    if bit(x as u32, 15) {
+        Referred::Pivot(t.pivot as usize + 6 * number)
     } else {
-        Referred {
-            pivot: false,
-            place: t.basis as usize + 10 * number,
-            size: 10,
-        }
+        Referred::Basis(t.basis as usize + 10 * number)
     }
 }
 
@@ -324,24 +301,15 @@ pub fn refer(t: Tables, x: u16) -> Referred
 fn reference_end(t: Tables, x: u16) -> usize
     ensures { result ≡ reference_end t x }
 {
-    let r = refer(t, x);
-    r.place + r.size
-}
-
-// How far a part reaches that ends at `end`.
-fn reach_to(s: &[u8], end: usize, reach: usize) -> Reach
-    ensures { result ≡ reach_to end (length s.now) reach }
-{
-    if s.len() < end {
-        Reach::Refused(2)
-    } else {
-        Reach::Whole(greater(reach, end))
+    match refer(t, x) {
+        Referred::Pivot(place) => place + 6,
+        Referred::Basis(place) => place + 10,
     }
 }
 
 // How far the record reaches that x refers to.
-fn follow(s: &[u8], t: Tables, x: u16, reach: usize) -> Reach
-    ensures { result ≡ reach_of (run (reference t.pivot t.basis x) s.now reach) }
+fn follow(s: &[u8], t: Tables, x: u16, reach: usize) -> Result<usize, Refusal>
+    ensures { outcome reached result ≡ reach_of (run (reference t.pivot t.basis x) s.now reach) }
 {
     reach_to(s, reference_end(t, x), reach)
 }
@@ -371,8 +339,8 @@ fn greatest_of(s: &[u8], list: usize, n: usize) -> Greatest
     let mut turned = 0u16;
     for i in 0..n {
         let x = word16(s, list + 2 * i);
-        plain = greater16(plain, x);
-        turned = greater16(turned, turn(x));
+        plain = plain.max(x);
+        turned = turned.max(turn(x));
     }
     Greatest { plain, turned }
 }
@@ -381,7 +349,7 @@ fn greatest_of(s: &[u8], list: usize, n: usize) -> Greatest
 fn marked_end(t: Tables, mark: u16, x: u16) -> usize
     ensures { result ≡ marked_end t mark x }
 {
-    if bit16(mark, 15) {
+    if bit(mark as u32, 15) {
         reference_end(t, x)
     } else {
         0
@@ -392,38 +360,37 @@ fn marked_end(t: Tables, mark: u16, x: u16) -> usize
 fn last_end(t: Tables, g: Greatest) -> usize
     ensures { result ≡ last_end t g }
 {
-    greater(
-        marked_end(t, g.plain, g.plain),
-        marked_end(t, g.turned, turn(g.turned)),
-    )
+    marked_end(t, g.plain, g.plain).max(marked_end(t, g.turned, turn(g.turned)))
 }
 
 // How far the records reach that the n references at `list` lead to: as far as the last of them.
-fn follow_all(s: &[u8], t: Tables, list: usize, n: usize, reach: usize) -> Reach
+fn follow_all(s: &[u8], t: Tables, list: usize, n: usize, reach: usize) -> Result<usize, Refusal>
     requires { list + 2 * n ≤ length s.now }
-    ensures { result ≡ reach_of (run (each (reference t.pivot t.basis) (view 2 little n (drop list s.now))) s.now reach) }
+    ensures { outcome reached result ≡ reach_of (run (each (reference t.pivot t.basis) (view 2 little n (drop list s.now))) s.now reach) }
 {
     reach_to(s, last_end(t, greatest_of(s, list, n)), reach)
 }
 
 // A constant rotation: a reference, and two bytes skipped.
-fn read_constant_rotation(s: &[u8], t: Tables, at: Cur) -> RotationRead
+fn read_constant_rotation(s: &[u8], t: Tables, at: Cur) -> Result<(RotationCurve, Cur), Refusal>
     requires { at.pos ≤ 1048576 }
     ensures { RotationReads (rotation t.pivot t.basis true at.pos) t s.now at.reach (at.pos + 8) result }
 {
     let pos = at.pos + 4;
-    if s.len() < pos {
-        return RotationRead::Refused(2);
-    }
+    let far = reach_to(s, pos, at.reach)?;
     let x = word16(s, at.pos);
-    match follow(s, t, x, greater(at.reach, pos)) {
-        Reach::Refused(n) => RotationRead::Refused(n),
-        Reach::Whole(reach) => RotationRead::Whole(RotationCurve::Constant(x), Cur { pos, reach }),
-    }
+    let reach = follow(s, t, x, far)?;
+    Ok((RotationCurve::Constant(x), Cur { pos, reach }))
 }
 
 // The references of a curve word's list, where its offset points, followed in order.
-fn read_references(s: &[u8], t: Tables, w: u32, offset: u32, at: Cur) -> RotationRead
+fn read_references(
+    s: &[u8],
+    t: Tables,
+    w: u32,
+    offset: u32,
+    at: Cur,
+) -> Result<(RotationCurve, Cur), Refusal>
     requires { start_of w < end_of w }
     ensures { RotationReads (rotation_list t.pivot t.basis w offset at.pos) t s.now at.reach at.pos result }
 {
@@ -431,36 +398,20 @@ fn read_references(s: &[u8], t: Tables, w: u32, offset: u32, at: Cur) -> Rotatio
     let list = sample_list(w, place, 2);
     let n = list.length as usize;
     let end = place + 2 * n;
-    if s.len() < end {
-        return RotationRead::Refused(2);
-    }
-    match follow_all(s, t, place, n, greater(at.reach, end)) {
-        Reach::Refused(c) => RotationRead::Refused(c),
-        Reach::Whole(reach) => RotationRead::Whole(
-            RotationCurve::Samples(list),
-            Cur { pos: at.pos, reach },
-        ),
-    }
+    let far = reach_to(s, end, at.reach)?;
+    let reach = follow_all(s, t, place, n, far)?;
+    Ok((RotationCurve::Samples(list), Cur { pos: at.pos, reach }))
 }
 
 // A list of rotations: its fields, then its references.
-fn read_rotation_list(s: &[u8], t: Tables, at: Cur) -> RotationRead
+fn read_rotation_list(s: &[u8], t: Tables, at: Cur) -> Result<(RotationCurve, Cur), Refusal>
     requires { at.pos ≤ 1048576 }
     ensures { RotationReads (rotation t.pivot t.basis false at.pos) t s.now at.reach (at.pos + 8) result }
 {
-    match read_fields(s, at.pos, at.reach) {
-        FieldsRead::Refused(n) => RotationRead::Refused(n),
-        FieldsRead::Whole(w, offset, reach) => read_references(
-            s,
-            t,
-            w,
-            offset,
-            Cur {
-                pos: at.pos + 8,
-                reach,
-            },
-        ),
-    }
+    let fields = read_fields(s, at.pos, at.reach)?;
+    let pos = at.pos + 8;
+    let reach = fields.reach;
+    read_references(s, t, fields.word, fields.offset, Cur { pos, reach })
 }
 
 fn no_axes() -> AxisCurves
@@ -474,34 +425,43 @@ fn no_axes() -> AxisCurves
 }
 
 // Whether the two flag bits from lo on are clear.
-fn is_clear(flags: u16, lo: u32) -> bool
+fn is_clear(flags: u32, lo: u32) -> bool
     requires { lo ≤ 14 }
     ensures { result ≡ eqb (bits flags lo (lo + 2)) 0 }
 {
-    bits16(flags, lo, lo + 2) == 0
+    bits(flags, lo, lo + 2) == 0
 }
 
 // Three axes where they are animated, and none where they are left out.
-fn read_animated_axes(s: &[u8], which: Triple, flags: u16, at: Cur) -> AxesRead
+fn read_animated_axes(s: &[u8], which: Triple, flags: u32, at: Cur) -> Result<AxesRead, Refusal>
     requires { at.pos ≤ 524288 }
     ensures { AxesReads (triple_means which) (animated_axes (triple_means which) flags at.pos) s.now at.reach (at.pos + 24) result }
 {
-    if is_clear(flags, left_out_bit(which)) {
+    if is_clear(flags, which.left_out_bit()) {
         read_axes(s, which, flags, at)
     } else {
-        AxesRead::Whole(no_axes(), at, 0)
+        Ok(AxesRead {
+            curves: no_axes(),
+            at,
+            samples: 0,
+        })
     }
 }
 
 // A rotation where it is animated, and none where it is left out.
-fn read_animated_rotation(s: &[u8], t: Tables, flags: u16, at: Cur) -> RotationRead
+fn read_animated_rotation(
+    s: &[u8],
+    t: Tables,
+    flags: u32,
+    at: Cur,
+) -> Result<(RotationCurve, Cur), Refusal>
     requires { at.pos ≤ 1048576 }
     ensures { RotationReads (animated_rotation t.pivot t.basis flags at.pos) t s.now at.reach (at.pos + 8) result }
 {
     if !is_clear(flags, 6) {
-        return RotationRead::Whole(RotationCurve::None, at);
+        return Ok((RotationCurve::None, at));
     }
-    if bit16(flags, 8) {
+    if bit(flags, 8) {
         read_constant_rotation(s, t, at)
     } else {
         read_rotation_list(s, t, at)
@@ -530,100 +490,71 @@ fn still_curves() -> TRSCurves
     }
 }
 
-fn refused_object(n: u8) -> ObjectRead
-    ensures { result ≡ refused_object n }
-{
-    ObjectRead {
-        reach: Reach::Refused(n),
-        samples: 0,
-        curves: still_curves(),
-    }
-}
-
 // The fields of an animated object: translation, rotation, scale.
-fn read_animated(s: &[u8], t: Tables, flags: u16, at: Cur) -> ObjectRead
+fn read_animated(s: &[u8], t: Tables, flags: u32, at: Cur) -> Result<ObjectRead, Refusal>
     requires { at.pos ≤ 131072 }
     ensures { ObjectReads (animated t.pivot t.basis flags at.pos) t s.now at.reach result }
 {
-    match read_animated_axes(s, Triple::Translation, flags, at) {
-        AxesRead::Refused(n) => refused_object(n),
-        AxesRead::Whole(trans, rotation_at, moved) => {
-            match read_animated_rotation(s, t, flags, rotation_at) {
-                RotationRead::Refused(n) => refused_object(n),
-                RotationRead::Whole(rotation, scale_at) => {
-                    match read_animated_axes(s, Triple::Scale, flags, scale_at) {
-                        AxesRead::Refused(n) => refused_object(n),
-                        AxesRead::Whole(scale, end, sized) => ObjectRead {
-                            reach: Reach::Whole(end.reach),
-                            samples: moved as u64
-                                + rotation_samples(rotation) as u64
-                                + sized as u64,
-                            curves: TRSCurves {
-                                trans,
-                                rotation,
-                                scale,
-                            },
-                        },
-                    }
-                }
-            }
-        }
-    }
+    let trans = read_animated_axes(s, Triple::Translation, flags, at)?;
+    let (rotation, scale_at) = read_animated_rotation(s, t, flags, trans.at)?;
+    let scale = read_animated_axes(s, Triple::Scale, flags, scale_at)?;
+    Ok(ObjectRead {
+        reach: scale.at.reach,
+        samples: trans.samples as u64 + rotation_samples(rotation) as u64 + scale.samples as u64,
+        curves: TRSCurves {
+            trans: trans.curves,
+            rotation,
+            scale: scale.curves,
+        },
+    })
 }
 
 // The object at p.
-pub fn read_object(s: &[u8], t: Tables, p: usize, reach: usize) -> ObjectRead
+pub fn read_object(s: &[u8], t: Tables, p: usize, reach: usize) -> Result<ObjectRead, Refusal>
     requires { p ≤ 65535 }
     ensures { ObjectReads (object t.pivot t.basis p) t s.now reach result }
 {
     let pos = p + 4;
-    if s.len() < pos {
-        return refused_object(2);
-    }
-    let flags = word16(s, p);
-    let far = greater(reach, pos);
-    if bit16(flags, 0) {
-        return ObjectRead {
-            reach: Reach::Whole(far),
+    let far = reach_to(s, pos, reach)?;
+    let flags = word16(s, p) as u32;
+    if bit(flags, 0) {
+        return Ok(ObjectRead {
+            reach: far,
             samples: 0,
             curves: still_curves(),
-        };
+        });
     }
     read_animated(s, t, flags, Cur { pos, reach: far })
 }
 
 // How far an object reaches, and how many values its lists have.
-fn follow_object(s: &[u8], t: Tables, p: usize, reach: usize) -> Tally
+fn follow_object(s: &[u8], t: Tables, p: usize, reach: usize) -> Result<Tally, Refusal>
     requires { p ≤ 65535 }
-    ensures { result ≡ tally_of object_samples (run (object t.pivot t.basis p) s.now reach) }
+    ensures { outcome tallied result ≡ tally_of object_samples (run (object t.pivot t.basis p) s.now reach) }
 {
-    let r = read_object(s, t, p, reach);
-    let far = r.reach;
-    match far {
-        Reach::Refused(c) => Tally::Refused(c),
-        Reach::Whole(m) => Tally::Whole(m, r.samples),
-    }
+    let object = read_object(s, t, p, reach)?;
+    Ok(Tally {
+        reach: object.reach,
+        samples: object.samples,
+    })
 }
 
 // How far the n objects reach whose offsets stand at 20, and how many values their lists have.
-fn follow_objects(s: &[u8], t: Tables, n: usize, reach: usize) -> Tally
+fn follow_objects(s: &[u8], t: Tables, n: usize, reach: usize) -> Result<Tally, Refusal>
     requires { (20 + 2 * n ≤ length s.now) × (n < 65536) }
-    ensures { result ≡ tally_of (total object_samples) (run (each (object t.pivot t.basis) (view 2 little n (drop 20 s.now))) s.now reach) }
+    ensures { outcome tallied result ≡ tally_of (total object_samples) (run (each (object t.pivot t.basis) (view 2 little n (drop 20 s.now))) s.now reach) }
 {
     let mut far = reach;
     let mut samples = 0u64;
-    let mut i = 0usize;
-    while i < n {
-        match follow_object(s, t, word16(s, 20 + 2 * i) as usize, far) {
-            Tally::Refused(c) => return Tally::Refused(c),
-            Tally::Whole(m, count) => {
-                far = m;
-                samples += count;
-            }
-        }
-        i += 1;
+    for k in 0..n {
+        let item = follow_object(s, t, word16(s, 20 + 2 * k) as usize, far)?;
+        far = item.reach;
+        samples += item.samples;
     }
-    Tally::Whole(far, samples)
+    Ok(Tally {
+        reach: far,
+        samples,
+    })
 }
 
 fn read_tables(s: &[u8]) -> Tables
@@ -636,35 +567,33 @@ fn read_tables(s: &[u8]) -> Tables
     }
 }
 
-pub fn read_animation(s: &[u8]) -> AnimationRead
-    ensures { AnimationIs s.now result }
+pub fn read_animation(s: &[u8]) -> Result<Animation, Refusal>
+    ensures { IsRead (WholeAnimation s.now) (run animation s.now 0) result }
 {
     if s.len() < 20 {
-        return AnimationRead::Refused(2);
+        return Err(Refusal::TooShort);
     }
     let frames = word16(s, 4);
     let objects = word16(s, 6) as usize;
     if s.len() < 20 + 2 * objects {
-        return AnimationRead::Refused(2);
+        return Err(Refusal::TooShort);
     }
-    if !starts_with(s, 0x4a, 0x00, 0x41, 0x43) {
-        return AnimationRead::Refused(5);
+    if !starts_with(s, b"J\0AC") {
+        return Err(Refusal::AnimationStamp);
     }
     if frames == 0 {
-        return AnimationRead::Refused(6);
+        return Err(Refusal::NoFrames);
     }
     if objects > MOST_OBJECTS {
-        return AnimationRead::Refused(12);
+        return Err(Refusal::ManyObjects);
     }
     let tables = read_tables(s);
-    match follow_objects(s, tables, objects, 20 + 2 * objects) {
-        Tally::Refused(n) => AnimationRead::Refused(n),
-        Tally::Whole(reach, samples) => AnimationRead::Whole(Animation {
-            frames,
-            objects,
-            tables,
-            reach,
-            samples,
-        }),
-    }
+    let all = follow_objects(s, tables, objects, 20 + 2 * objects)?;
+    Ok(Animation {
+        frames,
+        objects,
+        tables,
+        reach: all.reach,
+        samples: all.samples,
+    })
 }

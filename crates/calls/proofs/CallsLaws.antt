@@ -11,7 +11,7 @@ use Rattle.info_block.specs.InfoBlock.{Block}
 use Rattle.material_animation.specs.MaterialAnimation.{shift_of}
 use Rattle.pattern.specs.Pattern.{Key, choice, keys_of}
 use Rattle.nitro.specs.declared.container.EntryAt.{EntryAt}
-use Rattle.nitro.specs.declared.container.EntryFound.{EntryFound}
+use Rattle.std.specs.Prelude.{Ok}
 use Rattle.nitro.specs.Container.{Kind, srt, pat, all_kinds, stamped, section, Value, value, Entry, entry, record_of, entry_of}
 use Rattle.nitro.specs.ContainerCode.{entry_from}
 use Rattle.nitro.specs.EntryCode.{OpenReads}
@@ -50,7 +50,7 @@ module _ (k : Kind) (s : List ℕ) (i : ℕ) (q : Query k) where
   entry_asked m e h = ap told (entry_tells m e h) ∙ said (ask q e) s m
 
   -- .. that is opened and holds v
-  pub asked : (e : EntryAt) → OpenReads k s i (EntryFound.At e) → (m : ℕ) (v : Value k) → run (value k) (drop e.offset s) 0 ≡ accepted m v
+  pub asked : (e : EntryAt) → OpenReads k s i (Ok e) → (m : ℕ) (v : Value k) → run (value k) (drop e.offset s) 0 ≡ accepted m v
       → told (answer (on k i q) s) ≡ ask q (record { name = take 16 (drop e.name s); offset = e.offset; held = v })
   asked e w m v h = entry_asked _ _ (w.reads ∙ ap (entry_from k s e) h)
 

@@ -1,14 +1,13 @@
 -- What is sampled of a list that stands in a section. Assumes nothing.
-use Prim.Native.Nat.{ℕ, suc, ◌+◌, ◌-◌, ◌*◌, ◌≤◌, ◌<◌}
+use Prim.Native.Nat.{ℕ, ◌+◌, ◌-◌, ◌*◌, ◌≤◌, ◌<◌}
 use mathlib.Core.Bool.{Bool, true, false, cond}
 use mathlib.Core.List.{List, [], ◌∷◌}
 use mathlib.Core.Path.{◌≡◌, refl, sym, ap, subst, ◌∙◌}
-use native.Mathlib.Nat.{mul-le-mul_left, mul-suc}
 use native.Mathlib.Omega.{arith}
 use borrow.Author.Tests.{lt-leb, le-ltb, lt-ltb}
 use lib.Dec.{leb}
 use lib.ListN.{length, take, drop, get_or}
-use lib.Seq.{take-take, drop-drop}
+use lib.Seq.{take-take}
 use lib.Ieee.{Float}
 use Rattle.util.specs.Fixed.{Fix, fixed}
 use Rattle.util.specs.View.{little}
@@ -21,7 +20,8 @@ use Rattle.curve.specs.declared.SampleList.{SampleList}
 use Rattle.curve.specs.declared.ListRecord.{ListRecord as CodeRecord}
 use Rattle.curve.specs.declared.Spot.{Spot}
 use Rattle.curve.specs.declared.ScalarCurve.{ScalarCurve}
-use Rattle.curve.specs.Curve.{ListRecord, counted_from, Curve, samples, sample_count, stored, number_bytes, number_of, Pair, pair_of, firsts, pair_at, index, between, sample_list, sample_at, Recorded, listed, recorded}
+use Rattle.curve.specs.declared.Pair.{Pair}
+use Rattle.curve.specs.Curve.{ListRecord, counted_from, samples, sample_count, stored, number_bytes, number_of, pair_of, firsts, pair_at, index, between, sample_list, sample_at, Recorded, listed, recorded}
 use Rattle.curve.specs.CurveCode.{spot_at, on_value, spot_of, SpotIn, format_means, list_means, list_record_means, values_in, curve_in, scalar_curve, pair_curve, InsideList, Inside, InsideOf}
 use Rattle.curve.proofs.IndexLaws.{index_rest}
 
@@ -29,18 +29,6 @@ use Rattle.curve.proofs.IndexLaws.{index_rest}
 
 pub value_count : {A : Type 0} (value : Fix → List ℕ → A) (s : List ℕ) (l : SampleList) (number : Number) → length (values_in value s l number) ≡ l.length
 value_count value s l number = view-length l.size (value (format_means number)) l.length (drop l.place s)
-
--- what a value has of bytes ends inside
-bytes_inside : (s : List ℕ) (l : SampleList) (number : Number) → InsideList s l number → (k : ℕ) → k < l.length → (n : ℕ) → n ≤ l.size → l.place + l.size * k + n ≤ length s
-bytes_inside s l number i k h n w =
-    let m : l.size * suc k ≤ l.size * l.length = mul-le-mul_left l.size h in
-    omega (arith, mul-suc l.size k)
-
-pub value_inside : (s : List ℕ) (l : SampleList) (number : Number) → InsideList s l number → (k : ℕ) → k < l.length → l.place + l.size * k + number_bytes (format_means number) ≤ length s
-value_inside s l number i k h = bytes_inside s l number i k h _ i.wide
-
-pub pair_inside : (s : List ℕ) (l : SampleList) (number : Number) → InsideOf 2 s (ScalarCurve.Samples l number) → (k : ℕ) → k < l.length → l.place + l.size * k + number_bytes (format_means number) * 2 ≤ length s
-pair_inside s l number i k h = bytes_inside s l number i.0 k h _ i.1
 
 -- a number does not see past its bytes
 pub number_take : (f : Fix) (size : ℕ) (bs : List ℕ) → number_bytes f ≤ size → number_of f (take size bs) ≡ number_of f bs
@@ -51,18 +39,6 @@ pub pair_take : (f : Fix) (size : ℕ) (bs : List ℕ) → number_bytes f * 2 �
 pair_take f size bs h =
     ap (λ (x : Float). record { first = x; second = number_of f (drop (number_bytes f) (take size bs)) }) (number_take f size bs (omega arith))
     ∙ ap (λ (x : List ℕ). record { first = number_of f bs; second = fixed f (little x) }) (take-drop-take (number_bytes f) (number_bytes f) size bs (omega arith))
-
--- a number, once its format is known
-pub number_as : (number known : Number) → number ≡ known → (bs : List ℕ) (r : Float) → r ≡ number_of (format_means known) bs → r ≡ number_of (format_means number) bs
-number_as number known q bs r e = e ∙ sym (ap (λ (x : Number). number_of (format_means x) bs) q)
-
--- a pair, from a number and the one that stands w bytes further on
-pub pair_read : (f : Fix) (s : List ℕ) (place size k w : ℕ) → w ≡ number_bytes f → (first second : Float) → first ≡ number_of f (drop (place + size * k) s) → second ≡ number_of f (drop (place + w + size * k) s)
-    → record { first = first; second = second } ≡ pair_of f (drop (place + size * k) s)
-pair_read f s place size k w e first second a b =
-    let q : place + size * k + number_bytes f ≡ place + w + size * k = omega arith in
-    let g : second ≡ number_of f (drop (number_bytes f) (drop (place + size * k) s)) = b ∙ ap (number_of f) (sym (drop-drop (number_bytes f) (place + size * k) s ∙ ap (λ (n : ℕ). drop n s) q)) in
-    rw (a, g) refl
 
 -- value k is what stands there, where it does not see past its bytes
 there : {A : Type 0} (value : Fix → List ℕ → A) (s : List ℕ) (l : SampleList) (number : Number) → ((bs : List ℕ) → value (format_means number) (take l.size bs) ≡ value (format_means number) bs)
@@ -178,11 +154,6 @@ module _ {A : Type 0} (mixed : A → A → Float → A) (default : A) (l : Sampl
         go true y q = edge 0 q
         go false true q = edge (l.length - 1) q
         go false false q = unfold between in e ∙ rw (a, b) (ap mixed_at q)
-
--- a curve, once its variant is known
-pub sample_as : {A C : Type 0} (mixed : A → A → Float → A) (default : A) (curve : C → Curve A) (c known : C) → c ≡ known
-    → (frame : ℕ) (r : A) → r ≡ sample_at mixed default (curve known) frame → r ≡ sample_at mixed default (curve c) frame
-sample_as mixed default curve c known q frame r e = rw q e
 
 -- ---- one pair of those that a curve stores
 

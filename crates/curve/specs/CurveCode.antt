@@ -1,9 +1,8 @@
 -- What the structs of curve's code stand for. Assumes nothing.
-use Rattle.std.specs.Prelude.{ℕ, ◌+◌, ◌-◌, ◌*◌, ◌≤◌, ◌<◌, cond, List, ◌≡◌, leb, Float, length, drop}
+use Rattle.std.specs.Prelude.{ℕ, ◌+◌, ◌-◌, ◌*◌, ◌≤◌, ◌<◌, cond, List, ◌≡◌, leb, Float, length, drop, get_or}
 use Rattle.std.specs.Float.{binary64}
 use Rattle.std.specs.Float.Ieee.{sub}
 use Rattle.util.specs.View.{view}
-use Rattle.util.specs.Reader.{Verdict, answered, denied}
 use Rattle.util.specs.Fixed.{Fix, fix1_19_12, fix1_3_12, fix1_10_5}
 use Rattle.matrix.specs.Matrix.{f0}
 use Rattle.curve.specs.declared.Spot.{Spot}
@@ -13,11 +12,9 @@ use Rattle.curve.specs.declared.SampleList.{SampleList}
 use Rattle.curve.specs.declared.ListRecord.{ListRecord as CodeRecord}
 use Rattle.curve.specs.declared.ScalarCurve.{ScalarCurve}
 use Rattle.curve.specs.declared.ScalarCurve.TheVariants.{None, Constant, Samples}
-use Rattle.curve.specs.declared.ScalarRecord.{ScalarRecord}
-use Rattle.curve.specs.declared.Pair.{Pair as CodePair}
-use Rattle.curve.specs.declared.PairRecord.{PairRecord}
-use Rattle.curve.specs.declared.PairAnswer.{PairAnswer}
-use Rattle.curve.specs.Curve.{left_over, ListRecord, Curve, none, constant, samples, number_bytes, number_of, Pair, pair_of, floor, ceil, of_whole, index, Recorded, no_curve, always, listed}
+use Rattle.curve.specs.declared.CurveRecord.{CurveRecord}
+use Rattle.curve.specs.declared.Pair.{Pair}
+use Rattle.curve.specs.Curve.{left_over, ListRecord, Curve, none, constant, samples, number_bytes, number_of, pair_of, floor, ceil, of_whole, index, Recorded, no_curve, always, listed}
 
 -- the places around i
 abbrev pub spot_at : Float → Spot
@@ -95,21 +92,15 @@ InsideOf n s None = Unit {0}
 InsideOf n s (Constant place) = place + 4 * n ≤ length s
 InsideOf n s (Samples l number) = InsideList s l number × (number_bytes (format_means number) * n ≤ l.size)
 
--- a curve's record, by the cases of the code's enum
-abbrev pub record_means : ScalarRecord → Recorded Float
-record_means ScalarRecord.None = no_curve
-record_means (ScalarRecord.Constant v) = always v
-record_means (ScalarRecord.List r) = listed (list_record_means r) r.list.length
+-- `post` allows of each index of a list's n values the one that stands there in `values`, and that is the same when it is mixed with itself
+pub record Gives {A : Type 0} (mixed : A → A → Float → A) (post : ℕ → A → Type 0) (n : ℕ) (default : A) (values : List A) : Type 0 where
+  pub count : length values ≡ n
+  pub there : (k : ℕ) → k < n → (r : A) → post k r → r ≡ get_or values k default
+  pub still : (k : ℕ) → k < n → (r : A) → post k r → mixed r r f0 ≡ r
 
-abbrev pub pair_means : CodePair → Pair
-pair_means v = record { first = v.first; second = v.second }
-
-abbrev pub pair_record_means : PairRecord → Recorded Pair
-pair_record_means PairRecord.None = no_curve
-pair_record_means (PairRecord.Constant v) = always (pair_means v)
-pair_record_means (PairRecord.List r) = listed (list_record_means r) r.list.length
-
--- one value, or the number
-abbrev pub pair_answer_means : PairAnswer → Verdict Pair
-pair_answer_means (PairAnswer.Value v) = answered (pair_means v)
-pair_answer_means (PairAnswer.Refused n) = denied n
+module _ {T A : Type 0} where
+  -- a curve's record, by the cases of the code's enum: `means` says what its constant stands for
+  abbrev pub record_means : (T → A) → CurveRecord T → Recorded A
+  record_means means CurveRecord.None = no_curve
+  record_means means (CurveRecord.Constant v) = always (means v)
+  record_means means (CurveRecord.List r) = listed (list_record_means r) r.list.length

@@ -2,14 +2,16 @@
 #![tactic(auto)]
 
 ghost use Rattle.std.specs.Prelude.{List, ◌≡◌, ℕ, ◌+◌, ◌*◌, ◌^◌, ◌<◌, ◌≤◌, Float, length, drop};
-ghost use Rattle.util.specs.Fixed.{fix1_19_12};
+ghost use Rattle.util.specs.Fixed.{Fix, fix1_19_12};
+ghost use Rattle.util.specs.ReaderCode.{verdict};
 ghost use Rattle.util.specs.Within.{Under};
-ghost use Rattle.curve.specs.Curve.{sample_count, counted_from, index, mix, mix_col, mix_mat, sample_at, number_bytes, number_of, pair_of, pair_at, recorded};
-ghost use Rattle.curve.specs.CurveCode.{spot_at, on_value, SpotIn, format_means, list_means, list_record_means, Framed, scalar_curve, pair_curve, InsideList, Inside, InsideOf, record_means, pair_means, pair_record_means, pair_answer_means};
+ghost use Rattle.curve.specs.Curve.{samples, sample_count, counted_from, index, mix, mix_col, mix_mat, sample_at, number_bytes, number_of, pair_of, pair_at, recorded};
+ghost use Rattle.curve.specs.CurveCode.{spot_at, on_value, SpotIn, format_means, list_means, list_record_means, Framed, Gives, curve_in, scalar_curve, pair_curve, Inside, InsideOf, record_means};
 ghost use Rattle.curve.specs.Curve as spec;
 
 use matrix::{Col3, Mat3};
-use util::fixed::{Fix1_3_12, Fix1_10_5, Fix1_19_12};
+use util::fixed::{Fix1_3_12, Fix1_10_5, Fix1_19_12, Format};
+use util::refusal::Refusal;
 use util::view::{word16, word32};
 
 // How the numbers of a value are stored.
@@ -46,14 +48,6 @@ pub enum ScalarCurve {
     Samples(SampleList, Number),
 }
 
-// The record of a curve.
-#[derive(Clone, Copy)]
-pub enum ScalarRecord {
-    None,
-    Constant(f64),
-    List(ListRecord),
-}
-
 // One value of a scale. The first number is the one that is sampled.
 #[derive(Clone, Copy)]
 pub struct Pair {
@@ -61,18 +55,35 @@ pub struct Pair {
     pub second: f64,
 }
 
-// The record of a curve of pairs.
+// The record of a curve whose constant is a T.
 #[derive(Clone, Copy)]
-pub enum PairRecord {
+pub enum CurveRecord<T> {
     None,
-    Constant(Pair),
+    Constant(T),
     List(ListRecord),
 }
 
-#[derive(Clone, Copy)]
-pub enum PairAnswer {
-    Value(Pair),
-    Refused(u8),
+// What some bytes of a section are read as.
+pub trait Value {
+    // how many numbers it has
+    ghost numbers: { ℕ };
+
+    // .. and what it is, of its bytes
+    ghost reading: { Fix → List ℕ → Self };
+
+    // The value at a place.
+    fn read(s: &[u8], place: usize, number: Number) -> Self
+        requires { place + number_bytes (format_means number) * numbers ≤ length s.now }
+        ensures { result ≡ reading (format_means number) (drop place s.now) };
+}
+
+// What can be mixed.
+pub trait Mix {
+    ghost mixed: { Self → Self → Float → Self };
+
+    // The value at g between two values.
+    fn lerp(lo: Self, hi: Self, g: f64) -> Self
+        ensures { result ≡ mixed lo hi g };
 }
 
 // The whole number below x, from its bits.
@@ -157,68 +168,107 @@ pub fn spot_of(l: SampleList, frame: u16) -> Spot
     locate(l.start, l.end, frame, n)
 }
 
-// The value at g between two values.
-pub fn lerp(lo: f64, hi: f64, g: f64) -> f64
-    ensures { result ≡ mix lo hi g }
-{
-    lo * (1.0 - g) + hi * g
-}
+impl Mix for f64 {
+    ghost mixed = { mix };
 
-fn lerp_col(lo: Col3, hi: Col3, g: f64) -> Col3
-    ensures { result ≡ mix_col lo hi g }
-{
-    Col3 {
-        x: lerp(lo.x, hi.x, g),
-        y: lerp(lo.y, hi.y, g),
-        z: lerp(lo.z, hi.z, g),
+    fn lerp(lo: f64, hi: f64, g: f64) -> f64 {
+        lo * (1.0 - g) + hi * g
     }
 }
 
-// The same, entry by entry.
-pub fn lerp_mat(lo: Mat3, hi: Mat3, g: f64) -> Mat3
-    ensures { result ≡ mix_mat lo hi g }
-{
-    Mat3 {
-        c0: lerp_col(lo.c0, hi.c0, g),
-        c1: lerp_col(lo.c1, hi.c1, g),
-        c2: lerp_col(lo.c2, hi.c2, g),
+impl Mix for Col3 {
+    ghost mixed = { mix_col };
+
+    fn lerp(lo: Col3, hi: Col3, g: f64) -> Col3 {
+        Col3 {
+            x: f64::lerp(lo.x, hi.x, g),
+            y: f64::lerp(lo.y, hi.y, g),
+            z: f64::lerp(lo.z, hi.z, g),
+        }
     }
 }
 
-// The number of value k of a list that stands at `place`.
-fn value(s: &[u8], place: usize, size: u8, number: Number, k: usize) -> f64
-    requires { place + size * k + number_bytes (format_means number) ≤ length s.now }
-    ensures { result ≡ number_of (format_means number) (drop (place + size * k) s.now) }
-{
-    let at = place + size as usize * k;
-    match number {
-        Number::Fix1_19_12 => Fix1_19_12::read(word32(s, at)),
-        Number::Fix1_3_12 => Fix1_3_12::read(word16(s, at)),
-        Number::Fix1_10_5 => Fix1_10_5::read(word16(s, at)),
+// Entry by entry.
+impl Mix for Mat3 {
+    ghost mixed = { mix_mat };
+
+    fn lerp(lo: Mat3, hi: Mat3, g: f64) -> Mat3 {
+        Mat3 {
+            c0: Col3::lerp(lo.c0, hi.c0, g),
+            c1: Col3::lerp(lo.c1, hi.c1, g),
+            c2: Col3::lerp(lo.c2, hi.c2, g),
+        }
     }
 }
 
-// A list that is not empty, at a frame.
-fn sample_list(s: &[u8], l: SampleList, number: Number, frame: u16) -> f64
-    requires { (InsideList s.now l number) × (1 ≤ l.length) }
-    ensures { (default : Float) → result ≡ sample_at mix default (scalar_curve s.now (ScalarCurve.Samples l number)) frame }
+// A list that is not empty, at a frame: `value` gives its values.
+pub fn sample_list<V: Mix, F: Fn(usize) -> V>(l: SampleList, frame: u16, value: F) -> V
+    requires framed { (l.start < l.end) × (1 ≤ l.length) }
+    requires values { (k : ℕ) → k < l.length → F.pre value k }
+    ensures { (default : V) (values : List V) → Gives V.mixed (F.post value) l.length default values → result ≡ sample_at V.mixed default (samples (list_means l) values) frame }
 {
     let p = spot_of(l, frame);
-    let lo = value(s, l.place, l.size, number, p.lo as usize);
+    let lo = value(p.lo as usize);
     // mixed with itself it would be the same: g is +0 here
     if p.lo == p.hi {
         return lo;
     }
-    let hi = value(s, l.place, l.size, number, p.hi as usize);
-    lerp(lo, hi, p.g)
+    let hi = value(p.hi as usize);
+    V::lerp(lo, hi, p.g)
 }
 
-// A constant's number.
-fn constant(s: &[u8], place: usize) -> f64
-    requires { place + 4 ≤ length s.now }
-    ensures { result ≡ number_of fix1_19_12 (drop place s.now) }
+// The bytes of a number.
+fn number_bytes(number: Number) -> usize
+    ensures { (result ≡ number_bytes (format_means number)) × (result ≤ 4) }
 {
-    Fix1_19_12::read(word32(s, place))
+    match number {
+        Number::Fix1_19_12 => 4,
+        Number::Fix1_3_12 => 2,
+        Number::Fix1_10_5 => 2,
+    }
+}
+
+impl Value for f64 {
+    ghost numbers = { 1 };
+
+    ghost reading = { number_of };
+
+    fn read(s: &[u8], place: usize, number: Number) -> f64 {
+        match number {
+            Number::Fix1_19_12 => Fix1_19_12::read(word32(s, place)),
+            Number::Fix1_3_12 => Fix1_3_12::read(word16(s, place) as u32),
+            Number::Fix1_10_5 => Fix1_10_5::read(word16(s, place) as u32),
+        }
+    }
+}
+
+impl Value for Pair {
+    ghost numbers = { 2 };
+
+    ghost reading = { pair_of };
+
+    fn read(s: &[u8], place: usize, number: Number) -> Pair {
+        let next = place + number_bytes(number);
+        let first = f64::read(s, place, number);
+        let second = f64::read(s, next, number);
+        Pair { first, second }
+    }
+}
+
+// A constant.
+fn constant<V: Value>(s: &[u8], place: usize) -> V
+    requires { place + 4 * V.numbers ≤ length s.now }
+    ensures { result ≡ V.reading fix1_19_12 (drop place s.now) }
+{
+    V::read(s, place, Number::Fix1_19_12)
+}
+
+// Value k of a list.
+fn list_value<V: Value>(s: &[u8], l: SampleList, number: Number, k: usize) -> V
+    requires { InsideOf V.numbers s.now (ScalarCurve.Samples l number) × (k < l.length) }
+    ensures { result ≡ V.reading (format_means number) (drop (l.place + l.size * k) s.now) }
+{
+    V::read(s, l.place + l.size as usize * k, number)
 }
 
 // A curve at a frame: `default` where it has no value.
@@ -233,7 +283,13 @@ pub fn sample_scalar(s: &[u8], curve: ScalarCurve, default: f64, frame: u16) -> 
             if l.length == 0 {
                 return default;
             }
-            sample_list(s, l, number, frame)
+            sample_list(
+                l,
+                frame,
+                |k: usize| -> f64
+                    requires { InsideOf 1 s.now (ScalarCurve.Samples l number) × (k < l.length) }
+                { list_value(s, l, number, k) },
+            )
         }
     }
 }
@@ -268,78 +324,28 @@ pub fn record_list(l: SampleList, entry: usize) -> ListRecord
     ListRecord { list, rest }
 }
 
-// A curve's record, in an entry that stands at `entry`: the slice is the section from there on.
-pub fn record_scalar(s: &[u8], c: ScalarCurve, entry: usize) -> ScalarRecord
-    requires { Inside s.now c × (entry + length s.now < 18446744073709551616) }
-    ensures { record_means result ≡ recorded entry (scalar_curve s.now c) }
-{
-    match c {
-        ScalarCurve::None => ScalarRecord::None,
-        ScalarCurve::Constant(place) => ScalarRecord::Constant(constant(s, place)),
-        ScalarCurve::Samples(l, _) => ScalarRecord::List(record_list(l, entry)),
-    }
-}
-
-// The bytes of a number.
-fn number_bytes(number: Number) -> usize
-    ensures { (result ≡ number_bytes (format_means number)) × (result ≤ 4) }
-{
-    match number {
-        Number::Fix1_19_12 => 4,
-        Number::Fix1_3_12 => 2,
-        Number::Fix1_10_5 => 2,
-    }
-}
-
-// Value k of a list of pairs that stands at `place`: its second number is the first of a list that stands a number further on.
-fn read_pair(s: &[u8], place: usize, size: u8, number: Number, k: usize) -> Pair
-    requires { place + size * k + number_bytes (format_means number) * 2 ≤ length s.now }
-    ensures { pair_means result ≡ pair_of (format_means number) (drop (place + size * k) s.now) }
-{
-    let next = place + number_bytes(number);
-    let first = value(s, place, size, number, k);
-    let second = value(s, next, size, number, k);
-    Pair { first, second }
-}
-
-// A constant's pair.
-fn constant_pair(s: &[u8], place: usize) -> Pair
-    requires { place + 8 ≤ length s.now }
-    ensures { pair_means result ≡ pair_of fix1_19_12 (drop place s.now) }
-{
-    read_pair(s, place, 8, Number::Fix1_19_12, 0)
-}
-
-// The pair at an index of those that a curve stores; 9 past them.
-pub fn pair_at(s: &[u8], c: ScalarCurve, index: usize) -> PairAnswer
+// The pair at an index of those that a curve stores.
+pub fn pair_at(s: &[u8], c: ScalarCurve, index: usize) -> Result<Pair, Refusal>
     requires { InsideOf 2 s.now c }
-    ensures { pair_answer_means result ≡ pair_at (pair_curve s.now c) index }
+    ensures { verdict (λ v. v) result ≡ pair_at (pair_curve s.now c) index }
 {
     match c {
-        ScalarCurve::None => PairAnswer::Refused(9),
-        ScalarCurve::Constant(place) => {
-            if index >= 1 {
-                return PairAnswer::Refused(9);
-            }
-            PairAnswer::Value(constant_pair(s, place))
+        ScalarCurve::Constant(place) if index == 0 => Ok(constant(s, place)),
+        ScalarCurve::Samples(l, number) if index < l.length as usize => {
+            Ok(list_value(s, l, number, index))
         }
-        ScalarCurve::Samples(l, number) => {
-            if index >= l.length as usize {
-                return PairAnswer::Refused(9);
-            }
-            PairAnswer::Value(read_pair(s, l.place, l.size, number, index))
-        }
+        _ => Err(Refusal::NoSuchIndex),
     }
 }
 
-// The record of a curve of pairs, as `record_scalar` has it.
-pub fn record_pairs(s: &[u8], c: ScalarCurve, entry: usize) -> PairRecord
-    requires { InsideOf 2 s.now c × (entry + length s.now < 18446744073709551616) }
-    ensures { pair_record_means result ≡ recorded entry (pair_curve s.now c) }
+// A curve's record, in an entry that stands at `entry`: the slice is the section from there on.
+pub fn record<V: Value>(s: &[u8], c: ScalarCurve, entry: usize) -> CurveRecord<V>
+    requires { InsideOf V.numbers s.now c × (entry + length s.now < 18446744073709551616) }
+    ensures { record_means (λ v. v) result ≡ recorded entry (curve_in V.reading s.now c) }
 {
     match c {
-        ScalarCurve::None => PairRecord::None,
-        ScalarCurve::Constant(place) => PairRecord::Constant(constant_pair(s, place)),
-        ScalarCurve::Samples(l, _) => PairRecord::List(record_list(l, entry)),
+        ScalarCurve::None => CurveRecord::None,
+        ScalarCurve::Constant(place) => CurveRecord::Constant(constant(s, place)),
+        ScalarCurve::Samples(l, _) => CurveRecord::List(record_list(l, entry)),
     }
 }

@@ -21,19 +21,17 @@ ghost use Rattle.listing.specs.Listing.{listing};
 ghost use Rattle.words.specs.Words.{Writes, kind_words, name_words, checked, record_words, curve_words, curve_floats, one_float, two_floats, nine_floats, listed_words, chosen_words, shift_floats, material_words, resampled_words, posed_words, found_words, WritesPattern};
 
 use animation::Triple;
-use calls::MatrixAnswer;
 use listing::list_section;
 use material::material;
 use matrix::put_matrix;
 use motion::{check, find, kind};
-use nitro::entry::EntryCheck;
 use player::{pick, picture, tick};
 use player_words::{mode_of, player_of, put_mode, put_pick, put_picture, put_tick};
 use text::ROOM;
+use util::refusal::Refusal;
 use words::{
     CURVE_WORDS, put_choice, put_count, put_curve, put_found, put_kind, put_list, put_material,
-    put_name, put_objects, put_record, put_resampling, put_rotation, put_scale, put_sixteen,
-    put_value,
+    put_name, put_objects, put_record, put_resampling, put_sixteen, put_value,
 };
 use writing::write_pattern;
 
@@ -49,8 +47,8 @@ pub fn motion_check(s: &[u8], entry: usize) -> u32
     ensures { result ≡ number (told (answer (calls.check entry) s.now)) }
 {
     match check(s, entry) {
-        EntryCheck::Refused(n) => n as u32,
-        EntryCheck::Whole(_) => 0,
+        Err(e) => e.into(),
+        Ok(_) => 0,
     }
 }
 
@@ -60,10 +58,10 @@ pub fn motion_matrix(s: &[u8], entry: usize, object: usize, frame: u16, out: &mu
     ensures { (result ≡ number (told (answer (on jnt entry (of_object object (matrix_bytes frame out.old))) s.now))) × (out.new ≡ bytes_after out.old (told (answer (on jnt entry (of_object object (matrix_bytes frame out.old))) s.now))) }
 {
     match jnt::matrix(s, entry, object, frame) {
-        MatrixAnswer::Refused(n) => n as u32,
-        MatrixAnswer::Matrix(m) => {
+        Err(e) => e.into(),
+        Ok(m) => {
             if out.len() < 128 {
-                return 11;
+                return Refusal::SmallSlice.into();
             }
             put_matrix(out, m);
             0
@@ -137,7 +135,7 @@ pub fn motion_rotation_curve(
 ) -> u32
     ensures { Writes curve_words (told (answer (on jnt entry (of_object object rotation_curve)) s.now)) result out.old out.new × Writes (curve_floats nine_floats) (told (answer (on jnt entry (of_object object rotation_curve)) s.now)) result value.old value.new }
 {
-    put_rotation(jnt::rotation_curve(s, entry, object), out, value)
+    put_curve(jnt::rotation_curve(s, entry, object), out, value)
 }
 
 // Likewise its scale; a constant has two floats, its first and its second number.
@@ -151,7 +149,7 @@ pub fn motion_scale_curve(
 ) -> u32
     ensures { Writes curve_words (told (answer (on jnt entry (of_object object (curve scale axis))) s.now)) result out.old out.new × Writes (curve_floats two_floats) (told (answer (on jnt entry (of_object object (curve scale axis))) s.now)) result value.old value.new }
 {
-    put_scale(jnt::scale_curve(s, entry, object, axis), out, value)
+    put_curve(jnt::scale_curve(s, entry, object, axis), out, value)
 }
 
 // One value of a JNT0 object's scale: its first and its second number. The index counts the values that the curve stores; a constant has one.

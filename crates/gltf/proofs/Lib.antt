@@ -1,3 +1,3 @@
-pub mod Frames
+pub mod FrameLaws
 pub mod ResampleLaws
 pub mod FiniteLaws

@@ -21,11 +21,12 @@ use Rattle.curve.specs.Curve.{ListRecord, Curve, constant, samples, number_of}
 use Rattle.curve.specs.CurveCode.{scalar_curve, list_means, values_in, InsideList}
 use Rattle.curve.proofs.SampleLaws.{value_count}
 use Rattle.animation.specs.Animation.{Axes, axes_at}
-use Rattle.gltf.specs.declared.Resampling.{Resampling}
-use Rattle.gltf.specs.declared.Resampling.TheVariants.{Frames, Nothing, Refused}
+use Rattle.std.specs.Prelude.{Result, Ok, Err, Option, Some, None}
+use Rattle.util.specs.declared.refusal.Refusal.{Refusal}
+use Rattle.util.specs.declared.refusal.Refusal.TheVariants.{EmptyList, SmallSlice}
+use Rattle.gltf.specs.declared.Frames.{Frames}
 use Rattle.gltf.specs.Curve.{Domain, no_domain, over, domain, is_empty, union, frames_of, axes_domain, any_empty, sample_axes, resample_vec3, span_of, resample, slice_of}
-use Rattle.gltf.specs.CurveCode.{Stepped, resampling_means}
-use Rattle.gltf.proofs.Frames.{onward, next_frame, no_frame}
+use Rattle.gltf.specs.CurveCode.{Stepped, frames_means, resampling_means}
 
 -- ---- empty lists
 
@@ -95,60 +96,60 @@ axes_domain_is a x y z xy d h k l e q = (cc, subst Stepped (sym (q ∙ ap (λ (w
 
 -- ---- the values, written one frame after the other
 
-module _ (default : Float) (a : Axes) (l : List Float) (at f end rate : ℕ) where
-  -- what is written from a frame on
-  abbrev pub written : List Float
-  written = sets l at (sample_axes default a (onward f end rate))
+module _ (default : Float) (a : Axes) where
+  -- what is written of some frames, from a place on
+  abbrev pub written : List Float → ℕ → List ℕ → List Float
+  written l at fs = sets l at (sample_axes default a fs)
 
-  pub wrote : end ≤ f → l ≡ written
+  pub write_none : (l : List Float) (at : ℕ) (fs : List ℕ) → length fs ≡ 0 → l ≡ written l at fs
   unfolding sample_axes
-  wrote h = sym (ap (λ (fs : List ℕ). sets l at (sample_axes default a fs)) (no_frame f end rate h))
+  write_none l at [] e = refl
+  write_none l at (f ∷ fs) e = absurd (omega arith)
 
-three : (at : ℕ) → (suc at ≡ at + 1) × (suc (suc at) ≡ at + 2) × (suc (suc (suc at)) ≡ at + 3)
-three at = (omega arith, omega arith, omega arith)
-
-pub write_frame : (default : Float) (a : Axes) (l : List Float) (at f end rate : ℕ) (v : Col3) → v ≡ axes_at default a f → 1 ≤ rate → f < end
-    → written default a (set (set (set l at v.x) (at + 1) v.y) (at + 2) v.z) (at + 3) (f + rate) end rate ≡ written default a l at f end rate
-unfolding sample_axes
-write_frame default a l at f end rate v e h k =
-    let p = three at in
-    sym (ap (λ (fs : List ℕ). sets l at (sample_axes default a fs)) (next_frame f end rate h k) ∙ rw (← e, ← p.2, ← p.1, ← p.0) refl)
+  pub write_frame : (l : List Float) (k f : ℕ) (fs later : List ℕ) (v : Col3) → fs ≡ f ∷ later → v ≡ axes_at default a f
+      → written (set (set (set l (3 * k) v.x) (3 * k + 1) v.y) (3 * k + 2) v.z) (3 * (k + 1)) later ≡ written l (3 * k) fs
+  unfolding sample_axes
+  write_frame l k f fs later v q e =
+      let at : 3 * (k + 1) ≡ suc (suc (suc (3 * k))) = omega arith in
+      let one : 3 * k + 1 ≡ suc (3 * k) = omega arith in
+      let two : 3 * k + 2 ≡ suc (suc (3 * k)) = omega arith in
+      rw (q, ← e, at, one, two) refl
 
 -- ---- the answer, and what the slice holds
 
 -- what the call answers, and what it leaves in the slice
-abbrev Leaves : Float → Axes → List Float → ℕ → Resampling → List Float → Type 0
+abbrev Leaves : Float → Axes → List Float → ℕ → Result (Option Frames) Refusal → List Float → Type 0
 Leaves default a out place r after = (resampling_means r after ≡ resample default a out place) × (after ≡ slice_of out (resample default a out place))
 
--- the answer for a domain, where it fits
-abbrev Answers : Domain → Resampling → Type 0
-Answers d r = (slice : List Float) → resampling_means r slice ≡ answered (record { over = span_of d; frames = length (frames_of d); slice = slice })
+-- what is answered of a domain, where it fits
+abbrev Answers : Domain → Option Frames → Type 0
+Answers d r = (slice : List Float) → frames_means slice r ≡ record { over = span_of d; frames = length (frames_of d); slice = slice }
 
 module _ (default : Float) (a : Axes) (out : List Float) (place : ℕ) where
-  pub empty_list : any_empty a ≡ true → Leaves default a out place (Refused 10) out
+  pub empty_list : any_empty a ≡ true → Leaves default a out place (Err EmptyList) out
   unfolding resample
   empty_list e = rw e (refl, refl)
 
   module _ (e : any_empty a ≡ false) (d : Domain) (q : d ≡ axes_domain a) where
-    pub too_small : length out < place + 3 * length (frames_of d) → Leaves default a out place (Refused 11) out
+    pub too_small : length out < place + 3 * length (frames_of d) → Leaves default a out place (Err SmallSlice) out
     unfolding resample
     too_small h = rw (e, ← q, lt-leb (place + 3 * length (frames_of d)) (length out) h) (refl, refl)
 
     -- `part` is what the callee left in the part of the slice that it was lent
     pub resampled : place + 3 * length (frames_of d) ≤ length out → (part : List Float) → part ≡ sets (take (length out - place) (drop place out)) 0 (sample_axes default a (frames_of d))
-        → (r : Resampling) → Answers d r → Leaves default a out place r (take place out ++ (part ++ drop (length out - place) (drop place out)))
+        → (r : Option Frames) → Answers d r → Leaves default a out place (Ok r) (take place out ++ (part ++ drop (length out - place) (drop place out)))
     unfolding resample resample_vec3
     resampled h part w r k =
         let l : place ≤ length out = omega arith in
         let m = sets_lent place out part (sample_axes default a (frames_of d)) l w in
         rw (e, ← q, le-leb (place + 3 * length (frames_of d)) (length out) h)
-        (k _ ∙ ap (λ (slice : List Float). answered (record { over = span_of d; frames = length (frames_of d); slice = slice })) m, m)
+        (ap answered (k _ ∙ ap (λ (slice : List Float). record { over = span_of d; frames = length (frames_of d); slice = slice }) m), m)
 
 -- how a domain is answered
 module _ (d : Domain) where
-  pub no_frames_answered : d ≡ no_domain → Answers d Nothing
+  pub no_frames_answered : d ≡ no_domain → Answers d None
   unfolding frames_of
   no_frames_answered e slice = rw e refl
 
-  pub frames_answered : (start end rate n : ℕ) → d ≡ over start end rate → n ≡ length (frames_of d) → Answers d (Frames start end n)
+  pub frames_answered : (start end rate n : ℕ) → d ≡ over start end rate → n ≡ length (frames_of d) → Answers d (Some (record { start_frame = start; end_frame = end; frames = n }))
   frames_answered start end rate n e q slice = rw (← q, e) refl

@@ -1,20 +1,21 @@
 // Domains of curves, and three curves resampled onto the union of theirs.
 #![tactic(auto)]
 
-ghost use Rattle.std.specs.Prelude.{◌≡◌, false, List, ℕ, ◌-◌, ◌*◌, ◌/◌, ◌<◌, ◌≤◌, min, length};
+ghost use Rattle.std.specs.Prelude.{◌≡◌, false, List, ℕ, ◌-◌, ◌*◌, ◌/◌, ◌<◌, ◌≤◌, length};
 ghost use Rattle.std.proofs.lemmas.List.Edits.{sets};
 ghost use Rattle.curve.specs.CurveCode.{Inside, scalar_curve};
 ghost use Rattle.animation.specs.Animation.{default_of};
 ghost use Rattle.animation.specs.AnimationCode.{triple_means, axis_curves, curves_of, InsideAxes};
-ghost use Rattle.gltf.specs.Curve.{over, is_empty, any_empty, axes_domain, frames_from, frames_of, sample_axes, slice_of};
+ghost use Rattle.gltf.specs.Curve.{over, is_empty, any_empty, axes_domain, frames_of, sample_axes, slice_of};
 ghost use Rattle.gltf.specs.CurveCode.{domain_means, Stepped, resampling_means};
 ghost use Rattle.gltf.specs.Curve as spec;
 
 use animation::{AxisCurves, TRSCurves, Triple};
 use curve::ScalarCurve;
 use trs::sample_axes;
-use util::cur::greater16;
+use util::refusal::Refusal;
 
+// Like an Option of a struct, but it is apicula's own enum, with its names.
 #[derive(Clone, Copy)]
 pub enum CurveDomain {
     None,
@@ -65,9 +66,9 @@ impl CurveDomain {
                     end_frame: e2,
                     sampling_rate: r2,
                 } => CurveDomain::Sampled {
-                    start_frame: least(s1, s2),
-                    end_frame: greater16(e1, e2),
-                    sampling_rate: least(r1, r2),
+                    start_frame: s1.min(s2),
+                    end_frame: e1.max(e2),
+                    sampling_rate: r1.min(r2),
                 },
             },
         }
@@ -84,20 +85,9 @@ impl CurveDomain {
                 start_frame,
                 end_frame,
                 sampling_rate,
-            } => {
-                let start = start_frame as usize;
-                let end = end_frame as usize;
-                let rate = sampling_rate as usize;
-                (end - start + rate - 1) / rate
-            }
+            } => (end_frame - start_frame).div_ceil(sampling_rate) as usize,
         }
     }
-}
-
-fn least(a: u16, b: u16) -> u16
-    ensures { result ≡ min a b }
-{
-    if a < b { a } else { b }
 }
 
 // Whether a curve is a list without values.
@@ -116,10 +106,7 @@ fn is_empty(c: ScalarCurve) -> bool
 fn any_empty(a: AxisCurves) -> bool
     ensures { (s : List ℕ) → result ≡ any_empty (axis_curves s a) }
 {
-    let x = a.x;
-    let y = a.y;
-    let z = a.z;
-    is_empty(x) || is_empty(y) || is_empty(z)
+    is_empty(a.x) || is_empty(a.y) || is_empty(a.z)
 }
 
 // The domain of a curve that is no empty list.
@@ -139,42 +126,11 @@ fn axes_domain(s: &[u8], a: AxisCurves) -> CurveDomain
     requires { InsideAxes s.now a × (any_empty (axis_curves s.now a) ≡ false) }
     ensures { (domain_means result ≡ axes_domain (axis_curves s.now a)) × Stepped (domain_means result) }
 {
-    let x = a.x;
-    let y = a.y;
-    let z = a.z;
-    let d = domain(s, x);
-    let e = domain(s, y);
-    d.union(e).union(domain(s, z))
+    domain(s, a.x).union(domain(s, a.y)).union(domain(s, a.z))
 }
 
-// The values at the frames start, start + rate, .. below end, three floats each.
-fn resample_frames(
-    s: &[u8],
-    a: AxisCurves,
-    default: f64,
-    start: u16,
-    end: u16,
-    rate: u16,
-    out: &mut [f64],
-)
-    requires { InsideAxes s.now a × (1 ≤ rate) × (3 * length (frames_from (end - start) start end rate) ≤ length out.old) }
-    ensures { out.new ≡ sets out.old 0 (sample_axes default (axis_curves s.now a) (frames_from (end - start) start end rate)) }
-{
-    let end = end as usize;
-    let rate = rate as usize;
-    let mut frame = start as usize;
-    let mut at = 0usize;
-    while frame < end {
-        let v = sample_axes(s, a, default, frame as u16);
-        out[at] = v.x;
-        out[at + 1] = v.y;
-        out[at + 2] = v.z;
-        at += 3;
-        frame += rate;
-    }
-}
-
-// Three curves at the frames of d, three floats for each frame, from the start of `out` on.
+// Three curves at the frames of d, three floats for each frame, from the start of `out` on. Written by index: of what `chunks_exact_mut` lends,
+// a contract can say the length alone.
 fn resample_vec3(s: &[u8], a: AxisCurves, default: f64, d: CurveDomain, out: &mut [f64])
     requires { InsideAxes s.now a × Stepped (domain_means d) × (3 * length (frames_of (domain_means d)) ≤ length out.old) }
     ensures { out.new ≡ sets out.old 0 (sample_axes default (axis_curves s.now a) (frames_of (domain_means d))) }
@@ -183,52 +139,59 @@ fn resample_vec3(s: &[u8], a: AxisCurves, default: f64, d: CurveDomain, out: &mu
         CurveDomain::None => {}
         CurveDomain::Sampled {
             start_frame,
-            end_frame,
             sampling_rate,
-        } => resample_frames(s, a, default, start_frame, end_frame, sampling_rate, out),
+            ..
+        } => {
+            for k in 0..d.num_frames() {
+                let frame = start_frame as usize + sampling_rate as usize * k;
+                let v = sample_axes(s, a, default, frame as u16);
+                out[3 * k] = v.x;
+                out[3 * k + 1] = v.y;
+                out[3 * k + 2] = v.z;
+            }
+        }
     }
 }
 
-// What was resampled: from which frame to which, and how many frames were written. Three missing curves have none.
+// What was resampled: from which frame to which, and how many frames were written.
 #[derive(Clone, Copy)]
-pub enum Resampling {
-    Frames {
-        start_frame: u16,
-        end_frame: u16,
-        frames: usize,
-    },
-    Nothing,
-    Refused(u8),
+pub struct Frames {
+    pub start_frame: u16,
+    pub end_frame: u16,
+    pub frames: usize,
 }
 
-// Three curves resampled into a lent slice, from a place onward.
-fn resample(s: &[u8], a: AxisCurves, default: f64, out: &mut [f64], place: usize) -> Resampling
+// Three curves resampled into a lent slice, from a place onward. Three missing curves have no frames.
+fn resample(
+    s: &[u8],
+    a: AxisCurves,
+    default: f64,
+    out: &mut [f64],
+    place: usize,
+) -> Result<Option<Frames>, Refusal>
     requires { InsideAxes s.now a }
     ensures { (resampling_means result out.new ≡ spec.resample default (axis_curves s.now a) out.old place) × (out.new ≡ slice_of out.old (spec.resample default (axis_curves s.now a) out.old place)) }
 {
     if any_empty(a) {
-        return Resampling::Refused(10);
+        return Err(Refusal::EmptyList);
     }
     let d = axes_domain(s, a);
     let frames = d.num_frames();
-    if out.len() < place {
-        return Resampling::Refused(11);
-    }
-    if out.len() - place < 3 * frames {
-        return Resampling::Refused(11);
+    if out.len() < place || out.len() - place < 3 * frames {
+        return Err(Refusal::SmallSlice);
     }
     resample_vec3(s, a, default, d, &mut out[place..]);
     match d {
-        CurveDomain::None => Resampling::Nothing,
+        CurveDomain::None => Ok(None),
         CurveDomain::Sampled {
             start_frame,
             end_frame,
-            sampling_rate,
-        } => Resampling::Frames {
+            ..
+        } => Ok(Some(Frames {
             start_frame,
             end_frame,
             frames,
-        },
+        })),
     }
 }
 
@@ -240,18 +203,12 @@ pub fn resample_triple(
     which: Triple,
     out: &mut [f64],
     place: usize,
-) -> Resampling
+) -> Result<Option<Frames>, Refusal>
     requires { InsideAxes s.now (curves_of which c) }
     ensures { (resampling_means result out.new ≡ spec.resample (default_of (triple_means which)) (axis_curves s.now (curves_of which c)) out.old place) × (out.new ≡ slice_of out.old (spec.resample (default_of (triple_means which)) (axis_curves s.now (curves_of which c)) out.old place)) }
 {
     match which {
-        Triple::Translation => {
-            let curves = c.trans;
-            resample(s, curves, 0.0, out, place)
-        }
-        Triple::Scale => {
-            let curves = c.scale;
-            resample(s, curves, 1.0, out, place)
-        }
+        Triple::Translation => resample(s, c.trans, 0.0, out, place),
+        Triple::Scale => resample(s, c.scale, 1.0, out, place),
     }
 }

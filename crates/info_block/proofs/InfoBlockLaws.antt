@@ -4,7 +4,6 @@ use mathlib.Core.Bool.{Bool, true, false}
 use mathlib.Core.List.{List}
 use mathlib.Core.Logic.{⊎_elim}
 use mathlib.Core.Path.{◌≡◌, refl, subst}
-use native.Mathlib.Nat.{mul-le-mul}
 use native.Mathlib.Omega.{arith}
 use borrow.Author.Tests.{eq-eqb, ne_eqb, eqb-true, eqb-false}
 use lib.Dec.{eqb}
@@ -19,10 +18,6 @@ use Rattle.util.proofs.ReadsLaws.{one_value, not_both}
 use Rattle.info_block.specs.declared.InfoBlock.{InfoBlock}
 use Rattle.info_block.specs.InfoBlock.{Block, info_block}
 use Rattle.info_block.specs.InfoBlockCode.{block_at}
-
--- a product of what is at most 64 and a byte
-pub few : (a b : ℕ) → a ≤ 64 → b ≤ 255 → a * b ≤ 64 * 255
-few a b h l = mul-le-mul h l
 
 module _ (p size : ℕ) (s : List ℕ) (reach : ℕ) where
   -- where the lists stand, for a count

@@ -2,24 +2,23 @@
 use Prim.Native.Nat.{ℕ, suc, ◌+◌, ◌*◌, ◌^◌, ◌≤◌, ◌<◌}
 use mathlib.Core.Bool.{Bool, true, false, false≢true}
 use mathlib.Core.List.{List, [], ◌∷◌}
-use mathlib.Core.Logic.{⊎_elim}
-use mathlib.Core.Option.{none, some}
+use mathlib.Core.Option.{some}
 use mathlib.Core.Path.{◌≡◌, refl, sym, ap, ◌∙◌}
 use native.Mathlib.Numerals.{add-one}
 use native.Mathlib.Omega.{arith}
 use borrow.Author.Tests.{lt-ltb, le-ltb}
 use lib.ListN.{length, take, drop, get_or, length-take, drop_of_length-le}
 use lib.Seq.{drop-drop, get_or-take, get_or-drop, take-add, take_at, drop_at}
+use Rattle.std.specs.Prelude.{Option as CodeOption, Some, None, MatchOption}
 use Rattle.util.specs.View.{little, little_bytes, word_at, view}
 use Rattle.util.specs.Reader.{answered, denied}
 use Rattle.util.proofs.All.{Bytes, word_bytes}
-use Rattle.util.proofs.Cut.{le_or_lt}
 use Rattle.util.proofs.ViewLaws.{length-little, little-little, view-length, view_there}
 use Rattle.info_block.specs.declared.InfoBlock.{InfoBlock}
 use Rattle.info_block.specs.declared.name.Name.{Name as CodeName}
-use Rattle.info_block.specs.Name.{Name, equal, earliest, name_among}
-use Rattle.info_block.specs.NameCode.{name_means}
-use Rattle.info_block.proofs.EarliestLaws.{NoneBelow, earliest_name}
+use Rattle.info_block.specs.Name.{Name, equal, earliest, Named, name_among}
+use Rattle.info_block.specs.NameCode.{name_means, found}
+use Rattle.info_block.proofs.EarliestLaws.{earliest_name}
 use Rattle.info_block.proofs.EqualLaws.{equal_names, equal_differ, equal_ends, equal_goes_on, equal_from}
 
 -- ---- a name's two words
@@ -97,25 +96,27 @@ module _ (a s : List ℕ) (p : ℕ) where
       let m : length (take 16 (drop p s)) ≤ k = omega (arith, length-take 16 (drop p s)) in
       rw (drop_of_length-le a n, drop_of_length-le (take 16 (drop p s)) m) (equal_names.reflexive [])
 
--- ---- a name among names: what is known once those below i are looked at
+-- ---- a name among names
 
-module _ (s : List ℕ) (names count : ℕ) (name : Name) (i : ℕ) (w : NoneBelow name (all s names count) i) where
-  module _ (h : i < count) (b : Bool) (e : b ≡ equal name (take 16 (drop (names + 16 * i) s))) where
-    is_it : b ≡ equal name (get_or (all s names count) i [])
-    is_it = e ∙ ap (equal name) (sym (name_at_lem s names count i h))
+module _ (s : List ℕ) (names count : ℕ) (name : Name) where
+  -- whether the name that stands at index i is this one
+  abbrev pub is_at : ℕ → Bool → Type 0
+  is_at i b = b ≡ equal name (take 16 (drop (names + 16 * i) s))
 
-    pub found_here : b ≡ true → some i ≡ earliest name (all s names count)
-    found_here q = sym ((earliest_name.found name (all s names count) i).1 ((rw (all_length s names count) h, sym is_it ∙ q), w))
+  named : (i : ℕ) → i < count → (b : Bool) → is_at i b → b ≡ equal name (get_or (all s names count) i [])
+  named i h b e = e ∙ ap (equal name) (sym (name_at_lem s names count i h))
 
-    pub not_here : b ≡ false → NoneBelow name (all s names count) (i + 1)
-    not_here q j l n =
-        ⊎_elim
-        (λ (k : i ≤ j). let e : i ≡ j = omega arith in false≢true (sym q ∙ (is_it ∙ (ap (λ (x : ℕ). equal name (get_or (all s names count) x [])) e ∙ n.1))))
-        (λ (k : j < i). w j k n)
-        (le_or_lt i j)
+  differ : (i : ℕ) → i < count → is_at i false → Named name (all s names count) i → ⊥
+  differ i h e n = false≢true (named i h false e ∙ n.1)
 
-  pub found_nowhere : count ≤ i → none ≡ earliest name (all s names count)
-  found_nowhere h = sym ((earliest_name.nothing name (all s names count)).1 (λ j n. w j (omega (arith, all_length s names count, n.0)) n))
+  -- the first index whose name is this one, or none
+  pub found_first : (r : CodeOption ℕ) → MatchOption r ((k : ℕ) → 0 ≤ k → k < count → is_at k false) (λ i. (0 ≤ i) × (i < count) × is_at i true × ((k : ℕ) → 0 ≤ k → k < i → is_at k false))
+      → found (λ i. i) r ≡ earliest name (all s names count)
+  found_first None h =
+      sym ((earliest_name.nothing name (all s names count)).1 (λ k n. let l : k < count = omega (arith, all_length s names count, n.0) in differ k l (h k (omega arith) l) n))
+  found_first (Some i) h =
+      let l : i < count = h.1 in
+      sym ((earliest_name.found name (all s names count) i).1 ((omega (arith, all_length s names count), sym (named i l true h.2)), λ k q n. differ k (omega arith) (h.3 k (omega arith) q) n))
 
 -- the one that is found is one of them
 pub found_below : (s : List ℕ) (names count : ℕ) (name : Name) (i : ℕ) → some i ≡ earliest name (all s names count) → i < count

@@ -9,6 +9,7 @@ ghost use Rattle.std.proofs.lemmas.List.Edits.{sets};
 ghost use Rattle.info_block.specs.InfoBlock.{block_head};
 ghost use Rattle.info_block.specs.InfoBlockCode.{BlockReads};
 
+use util::refusal::Refusal;
 use util::view::{byte, put_word, word16};
 
 // Where the datums and the names stand, how many there are, and where the block ends.
@@ -20,20 +21,14 @@ pub struct InfoBlock {
     pub end: usize,
 }
 
-#[derive(Clone, Copy)]
-pub enum BlockRead {
-    Whole(InfoBlock),
-    Refused(u8),
-}
-
 // The info block at p, with datums of `size` bytes.
-pub fn read(s: &[u8], p: usize, size: usize) -> BlockRead
+pub fn read(s: &[u8], p: usize, size: usize) -> Result<InfoBlock, Refusal>
     requires { (p ≤ 64) × (size ≤ 64) }
     ensures { (reach : ℕ) → BlockReads s.now p size reach result }
 {
     let n = s.len();
     if n < p + 12 {
-        return BlockRead::Refused(2);
+        return Err(Refusal::TooShort);
     }
     let count = byte(s, p + 1) as usize;
     let tail = p + 12 + 4 * count;
@@ -41,15 +36,15 @@ pub fn read(s: &[u8], p: usize, size: usize) -> BlockRead
     let names = datums + size * count;
     let end = names + 16 * count;
     if n < end {
-        return BlockRead::Refused(2);
+        return Err(Refusal::TooShort);
     }
     if byte(s, p) != 0 {
-        return BlockRead::Refused(3);
+        return Err(Refusal::BlockStart);
     }
     if word16(s, tail) as usize != size {
-        return BlockRead::Refused(4);
+        return Err(Refusal::DatumSize);
     }
-    BlockRead::Whole(InfoBlock {
+    Ok(InfoBlock {
         count,
         datums,
         names,

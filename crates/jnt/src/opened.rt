@@ -2,27 +2,17 @@
 ghost use Rattle.jnt.specs.OpenedCode.{ObjectOpens};
 
 use animation::Animation;
-use nitro::entry::{AnimationOpen, open_animation};
+use nitro::entry::open_whole;
+use util::refusal::Refusal;
 
-// An entry that is whole and has the object: where it stands, and what is known of it. The object's curves are read where they are used:
-// they are large, and handing them on copies them.
-#[derive(Clone, Copy)]
-pub enum ObjectOpen {
-    At(usize, Animation),
-    Refused(u8),
-}
-
-// Object `object` of entry `entry` of a JNT0 section.
-pub fn open_object(s: &[u8], entry: usize, object: usize) -> ObjectOpen
+// Object `object` of entry `entry` of a JNT0 section, if the entry is whole and has it. The object's curves are read where they are used: they
+// are large, and handing them on copies them.
+pub fn open_object(s: &[u8], entry: usize, object: usize) -> Result<(usize, Animation), Refusal>
     ensures { ObjectOpens s.now entry object result }
 {
-    match open_animation(s, entry) {
-        AnimationOpen::Refused(n) => ObjectOpen::Refused(n),
-        AnimationOpen::At(e, a) => {
-            if a.objects <= object {
-                return ObjectOpen::Refused(9);
-            }
-            ObjectOpen::At(e.offset as usize, a)
-        }
+    let (e, a) = open_whole::<Animation>(s, entry)?;
+    if a.objects <= object {
+        return Err(Refusal::NoSuchIndex);
     }
+    Ok((e.offset as usize, a))
 }

@@ -14,23 +14,21 @@ use Rattle.util.proofs.Calls.{after, run_bind_as}
 use Rattle.util.proofs.ReadsLaws.{goes_on, stops}
 use Rattle.util.proofs.ViewLaws.{view-length, view_there}
 use Rattle.info_block.specs.declared.InfoBlock.{InfoBlock}
-use Rattle.info_block.specs.declared.BlockRead.{BlockRead}
+use Rattle.std.specs.Prelude.{Ok}
 use Rattle.info_block.specs.Name.{Name}
-use Rattle.nitro.specs.Container.{Kind, all_kinds, stamped, section, EntryRecord}
+use Rattle.nitro.specs.Container.{Kind, all_kinds, stamped, section}
 use Rattle.nitro.specs.ContainerCode.{HeaderReads}
-use Rattle.calls.specs.Calls.{check, answer}
-use Rattle.text.specs.Text.{ascii, decimal, hex, line}
-use Rattle.listing.specs.Listing.{stamp_text, outcome_lines, entry_lines, entries_from, total_lines, accepted_in, refused_in, samples_in, header, entry_listing, section_lines, body}
-use Rattle.text.specs.Writes.{Wrote}
-use Rattle.listing.specs.SectionCode.{block_outcome, header_from, entry_room}
-use Rattle.text.proofs.WritesLaws.{both, same}
+use Rattle.text.specs.Text.{ascii, decimal, line}
+use Rattle.listing.specs.Listing.{stamp_text, entry_lines, entries_from, total_lines, accepted_in, refused_in, samples_in, header, entry_listing, section_lines, body, form_line, listing}
+use Rattle.text.specs.declared.Text.{Text}
+use Rattle.text.specs.Writes.{pushed}
+use Rattle.listing.specs.SectionCode.{block_outcome, header_from}
+use Rattle.text.proofs.WritesLaws.{pushed_on}
 
--- ---- an entry
-
-pub one_entry : (k : Kind) (s : List ℕ) (i : ℕ) (name : Name) (o : Outcome EntryRecord) → o ≡ answer (check i) s
-    → line "entry" (decimal i) ++ line "name" (hex name) ++ outcome_lines k o ≡ entry_lines k s i name
-unfolding entry_lines
-one_entry k s i name o e = ap (λ (x : Outcome EntryRecord). line "entry" (decimal i) ++ line "name" (hex name) ++ outcome_lines k x) e
+-- the first line, and what stands below it
+pub form_first : (t : Text) (s : List ℕ) → pushed (pushed t form_line) (body s) ≡ pushed t (listing s)
+unfolding listing
+form_first t s = pushed_on t form_line (body s)
 
 -- ---- the entries, one after the other
 
@@ -56,14 +54,11 @@ module _ (k : Kind) (s : List ℕ) (p count : ℕ) where
       let f : get_or names i [] ≡ name_at i = view_there 16 (λ bs. bs) count i p s [] h in
       rw (add-one, take-suc names i [] (omega arith), entries_snoc, e, f) refl
 
-  pub entries_more : {l m r : List ℕ} {at mid end : ℕ} (i : ℕ) → i < count
-      → Wrote l m at mid (entry_room * i) (entries_from k s 0 (take i names)) → Wrote m r mid end entry_room (entry_lines k s i (name_at i))
-      → Wrote l r at end (entry_room * (i + 1)) (entries_from k s 0 (take (i + 1) names))
-  entries_more i h v w = same (sym (one_more i h)) (omega arith) (both v w)
+  pub entries_more : (t : Text) (i : ℕ) → i < count → pushed (pushed t (entries_from k s 0 (take i names))) (entry_lines k s i (name_at i)) ≡ pushed t (entries_from k s 0 (take (i + 1) names))
+  entries_more t i h = rw (one_more i h) (pushed_on t (entries_from k s 0 (take i names)) (entry_lines k s i (name_at i)))
 
-  pub all_entries : {l r : List ℕ} {at end : ℕ} (i : ℕ) → i ≤ count → count ≤ i
-      → Wrote l r at end (entry_room * i) (entries_from k s 0 (take i names)) → Wrote l r at end (entry_room * count) (entries_from k s 0 names)
-  all_entries i h g w = let n = names_length in same (ap (entries_from k s 0) (take_all i names (omega arith))) (omega arith) w
+  pub all_entries : (i : ℕ) → i ≤ count → count ≤ i → entries_from k s 0 (take i names) ≡ entries_from k s 0 names
+  all_entries i h g = let n = names_length in ap (entries_from k s 0) (take_all i names (omega arith))
 
 -- ---- a section with a stamp
 
@@ -81,7 +76,7 @@ module _ (s : List ℕ) (k : Kind) where
   unfolding section_lines
   block_refused n e = sym (ap (section_lines s) (stops _ _ _ _ n e))
 
-  pub block_whole : (b : InfoBlock) → HeaderReads s (BlockRead.Whole b) → section_lines s (block_outcome s k b) ≡ section_lines s (run (header_from k) s 4)
+  pub block_whole : (b : InfoBlock) → HeaderReads s (Ok b) → section_lines s (block_outcome s k b) ≡ section_lines s (run (header_from k) s 4)
   unfolding run section_lines
   block_whole b w = sym (ap (section_lines s) (goes_on section (λ b. done (record { kind = k; block = b })) s 4 _ _ w.reads))
 

@@ -10,7 +10,8 @@ use Rattle.util.specs.Sums.{sum_to}
 use Rattle.util.proofs.All.{Bytes}
 use Rattle.util.proofs.SumsLaws.{entry_bound}
 use Rattle.nitro.specs.declared.entry.Checked.{Checked}
-use Rattle.nitro.specs.declared.entry.EntryCheck.{EntryCheck}
+use Rattle.std.specs.Prelude.{Result, Ok, Err}
+use Rattle.util.specs.declared.refusal.Refusal.{Refusal}
 use Rattle.nitro.specs.Container.{EntryRecord}
 use Rattle.nitro.specs.EntryCode.{check_means}
 use Rattle.calls.specs.Calls.{check, answer}
@@ -21,10 +22,10 @@ use Rattle.listing.specs.Listing.{total_lines, refusals, accepted_in, refused_in
 use Rattle.listing.specs.SectionCode.{totals_with, FewTotals}
 
 -- one check more
-pub add_refused : (t : Totals) (n : ℕ) → record { accepted = t.accepted; refused = t.refused + 1; samples = t.samples } ≡ totals_with t (check_means (EntryCheck.Refused n))
+pub add_refused : (t : Totals) (n : Refusal) → record { accepted = t.accepted; refused = t.refused + 1; samples = t.samples } ≡ totals_with t (check_means (Err n))
 add_refused t n = rw (add-zero t.accepted, add-zero t.samples) refl
 
-pub add_accepted : (t : Totals) (e : Checked) → record { accepted = t.accepted + 1; refused = t.refused; samples = t.samples + e.samples } ≡ totals_with t (check_means (EntryCheck.Whole e))
+pub add_accepted : (t : Totals) (e : Checked) → record { accepted = t.accepted + 1; refused = t.refused; samples = t.samples + e.samples } ≡ totals_with t (check_means (Ok e))
 add_accepted t e = rw (add-zero t.refused) refl
 
 module _ (s : List ℕ) where
@@ -61,7 +62,7 @@ module _ (s : List ℕ) where
     samples_few (suc n) = let h = samples_few n in let k = one_few n (answer (check n) s) refl in omega arith
 
     -- with at most 255 entries no sum wraps
-    pub totals_few : (i : ℕ) (t : Totals) (found : EntryCheck) → i < 256 → t ≡ totals_in i → check_means found ≡ answer (check i) s → FewTotals t found
+    pub totals_few : (i : ℕ) (t : Totals) (found : Result Checked Refusal) → i < 256 → t ≡ totals_in i → check_means found ≡ answer (check i) s → FewTotals t found
     totals_few i t found l p q =
         let c = all_counted i in
         let h = samples_few i in

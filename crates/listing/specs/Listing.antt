@@ -1,5 +1,5 @@
 -- What the program motion-list prints. Assumes nothing.
-use Rattle.std.specs.Prelude.{ℕ, suc, cond, List, [], ◌∷◌, ◌++◌, ◌≡◌, refl, ltb, length, take, replicate}
+use Rattle.std.specs.Prelude.{ℕ, suc, ◌≤◌, cond, List, [], ◌∷◌, ◌++◌, ◌≡◌, refl, ltb, length, take, replicate}
 use Prim.Native.String.{String}
 use Rattle.util.specs.Reader.{Reader, done, bind, Outcome, accepted, refused, run}
 use Rattle.util.specs.Sums.{sum_to}
@@ -11,6 +11,7 @@ use Rattle.calls.specs.Samples.{adds}
 use Rattle.calls.specs.Evaluate.{evaluate}
 use Rattle.calls.specs.Pinned.{walk}
 use Rattle.calls.specs.Examples.{crowd}
+use Rattle.text.specs.Writes.{room}
 use Rattle.text.specs.Text.{ascii, digits, places, decimal, numeral, hex, line}
 
 abbrev pub stamp_text : Kind → String
@@ -95,6 +96,10 @@ form_line = line "listing" (decimal 2)
 
 unfoldable pub listing : List ℕ → List ℕ
 listing s = form_line ++ body s
+
+-- no listing is longer than the array that it is written into. Proved in proofs/Fits.antt.
+abbrev pub Fits : List ℕ → Type 0
+Fits s = length (listing s) ≤ room
 
 -- no digit of a count is lost: what stands after objects= tells the objects of every accepted entry. Proved in proofs/ObjectsTold.antt.
 abbrev pub ObjectsTold : List ℕ → Type 0

@@ -1,13 +1,13 @@
--- The lines of a section, from what the code finds in it, and the room that they take; its totals as the code adds them up. Assumes nothing.
-use Rattle.std.specs.Prelude.{ℕ, ◌+◌, ◌*◌, ◌<◌, List}
+-- The lines of a section, from what the code finds in it; its totals as the code adds them up. Assumes nothing.
+use Rattle.std.specs.Prelude.{ℕ, ◌+◌, ◌<◌, List, Result}
 use Rattle.util.specs.Reader.{Reader, done, bind, Outcome, accepted}
 use Rattle.info_block.specs.declared.InfoBlock.{InfoBlock}
 use Rattle.info_block.specs.InfoBlockCode.{block_at}
-use Rattle.nitro.specs.declared.entry.EntryCheck.{EntryCheck}
+use Rattle.nitro.specs.declared.entry.Checked.{Checked}
+use Rattle.util.specs.declared.refusal.Refusal.{Refusal}
 use Rattle.nitro.specs.Container.{Kind, section, EntryRecord}
 use Rattle.nitro.specs.EntryCode.{check_means}
 use Rattle.calls.specs.Samples.{adds}
-use Rattle.text.specs.Writes.{line_room}
 use Rattle.listing.specs.declared.Totals.{Totals}
 use Rattle.listing.specs.Listing.{Header, refusals}
 
@@ -19,24 +19,6 @@ block_outcome s k b = accepted b.end (record { kind = k; block = block_at s 4 b 
 abbrev pub header_from : Kind → Reader Header
 header_from k = bind section (λ b. done (record { kind = k; block = b }))
 
--- ---- the room that an entry takes
-
--- the answer, the reach, the frames, the objects or tracks
-abbrev pub record_room : ℕ
-record_room = 4 * line_room
-
--- the index, the name, and the record
-abbrev pub entry_room : ℕ
-entry_room = 2 * line_room + record_room
-
--- the three totals
-abbrev pub total_room : ℕ
-total_room = 3 * line_room
-
--- the kind, the number of entries, at most 255 of them, and the totals
-abbrev pub section_room : ℕ
-section_room = 2 * line_room + (255 * entry_room + total_room)
-
 -- ---- the totals
 
 -- with what one more check adds to each
@@ -44,5 +26,5 @@ abbrev pub totals_with : Totals → Outcome EntryRecord → Totals
 totals_with t o = record { accepted = t.accepted + adds (λ _. 1) o; refused = t.refused + refusals o; samples = t.samples + adds (λ e. e.samples) o }
 
 -- neither sum wraps
-abbrev pub FewTotals : Totals → EntryCheck → Type 0
+abbrev pub FewTotals : Totals → Result Checked Refusal → Type 0
 FewTotals t found = (t.accepted < 256) × (t.refused < 256) × (t.samples + adds (λ e. e.samples) (check_means found) < 18446744073709551616)

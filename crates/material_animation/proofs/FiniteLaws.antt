@@ -2,7 +2,7 @@
 -- lists together have fewer than 2^40 values. Assumes nothing.
 use Prim.Native.Nat.{ℕ, ◌*◌, ◌≤◌, ◌<◌}
 use mathlib.Core.List.{List}
-use mathlib.Core.Path.{◌≡◌}
+use mathlib.Core.Path.{◌≡◌, refl}
 use native.Mathlib.Omega.{arith}
 use lib.Dec.{lit≤, lit<}
 use lib.ListN.{length, take, drop, get_or}
@@ -10,7 +10,6 @@ use lib.Ieee.{Float}
 use Rattle.util.specs.Fixed.{fix1_10_5}
 use Rattle.util.specs.View.{word_at}
 use Rattle.util.specs.Reader.{done, accepted, run}
-use Rattle.util.specs.declared.cur.Tally.{Tally}
 use Rattle.util.specs.ReaderCode.{tally_of}
 use Rattle.util.specs.Sums.{total}
 use Rattle.util.proofs.All.{Bytes, bytes_drop, bytes_take, word_lt, Each, each_at, each_get_d, each_of, each_map, Many, All, list_all, all_run, all_map, all_cond, all_bind, all_after, all_each}
@@ -61,10 +60,10 @@ channels_all : (track : List ℕ) → Bytes track → All SizedTrack (channels t
 channels_all track h = all_each _ _ channel_numbers (each_of _ (channel_all track h) channel_numbers)
 
 -- what code counts of a track's lists
-pub track_few : (s : List ℕ) → Bytes s → (at m : ℕ) (x : Tally) → x ≡ tally_of track_samples (run (channels (track_at s at)) s m) → (j c : ℕ) → x ≡ Tally.Whole j c → c ≤ track_bound
-track_few s h at m =
+pub track_few : (s : List ℕ) → Bytes s → (at m j c : ℕ) → accepted j c ≡ tally_of track_samples (run (channels (track_at s at)) s m) → c ≤ track_bound
+track_few s h at m j c e =
     let sized = channels_all (track_at s at) (bytes_take 40 (drop at s) (bytes_drop at s h)) in
-    tally_le track_samples track_bound (channels (track_at s at)) (all_map SizedTrack (λ cs. track_samples cs ≤ track_bound) sized_few (channels (track_at s at)) sized) s h m
+    tally_le track_samples track_bound (channels (track_at s at)) (all_map SizedTrack (λ cs. track_samples cs ≤ track_bound) sized_few (channels (track_at s at)) sized) s h m (accepted j c) e j c refl
 
 abbrev pub SizedMaterial : MaterialAnimation → Type 0
 SizedMaterial a = (length a.tracks < 256) × Each SizedTrack a.tracks

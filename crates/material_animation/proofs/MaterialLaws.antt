@@ -12,9 +12,10 @@ use lib.ListN.{length, take, drop, get_or}
 use lib.Ieee.{Float}
 use Rattle.util.specs.View.{word_at, view}
 use Rattle.util.specs.Fixed.{fix1_10_5}
-use Rattle.util.specs.declared.cur.Tally.{Tally}
-use Rattle.util.specs.declared.cur.Tally.TheVariants.{Whole, Refused}
-use Rattle.util.specs.Reader.{Reader, done, accepted, refused, run, bind, bytes, word, each}
+use Rattle.std.specs.Prelude.{Ok, Err}
+use Rattle.util.specs.declared.refusal.Refusal.{Refusal}
+use Rattle.util.specs.Refusals.{number_of as refusal_number}
+use Rattle.util.specs.Reader.{Reader, done, Outcome, accepted, refused, run, bind, bytes, word, each}
 use Rattle.util.specs.ReaderCode.{tally_of}
 use Rattle.util.specs.Sums.{total}
 use Rattle.util.proofs.Cut.{le_or_lt, had, past, short, no_further, max_right, to}
@@ -24,7 +25,6 @@ use Rattle.util.proofs.Each.{rest, next, ended, all, from_none, counted_of, unco
 use Rattle.util.proofs.ViewLaws.{word_part, view-take}
 use Rattle.matrix.specs.Matrix.{f0, translation4}
 use Rattle.info_block.specs.declared.InfoBlock.{InfoBlock}
-use Rattle.info_block.specs.declared.BlockRead.{BlockRead}
 use Rattle.material_animation.specs.declared.MaterialAnimation.{MaterialAnimation as Known}
 use Rattle.curve.specs.Curve.{Curve, none, samples, sample_count, mix, sample_at, number_of}
 use Rattle.curve.specs.CurveCode.{list_means}
@@ -103,21 +103,21 @@ module _ (s : List ℕ) (track n : ℕ) (h : n < 5) where
 
 module _ (s : List ℕ) (track : ℕ) where
   -- what is left from channel i on, where n values have been counted
-  abbrev left : ℕ → ℕ → ℕ → Tally
+  abbrev left : ℕ → ℕ → ℕ → Outcome ℕ
   left i m n = rest sample_count (channel (track_at s track)) s channel_numbers 0 i m n
 
   -- channel i is accepted: go on; or it is refused, and so are the channels
   go_on : (i m n j : ℕ) (c : Curve Float) → i < 5 → run (channel (track_at s track) (get_or channel_numbers i 0)) s m ≡ accepted j c → left i m n ≡ left (i + 1) j (n + sample_count c)
   go_on i m n j c h e = next sample_count (channel (track_at s track)) s channel_numbers 0 i m n j (sample_count c) h (ap (tally_of sample_count) e)
 
-  stop : (i m n k : ℕ) → i < 5 → run (channel (track_at s track) (get_or channel_numbers i 0)) s m ≡ refused k → left i m n ≡ Refused k
+  stop : (i m n k : ℕ) → i < 5 → run (channel (track_at s track) (get_or channel_numbers i 0)) s m ≡ refused k → left i m n ≡ refused k
   stop i m n k h e = ended sample_count (channel (track_at s track)) s channel_numbers 0 i m n k h (ap (tally_of sample_count) e)
 
   module _ (reach : ℕ) where
     passed : (i : ℕ) → i < 3 → run (channel (track_at s track) i) s reach ≡ accepted reach none
     passed i h = channel_low s track i (omega arith) reach h
 
-    abbrev tracked : Tally
+    abbrev tracked : Outcome ℕ
     tracked = tally_of track_samples (run (channels (track_at s track)) s reach)
 
     first_three : tracked ≡ left 3 reach 0
@@ -128,17 +128,17 @@ module _ (s : List ℕ) (track : ℕ) where
         ∙ go_on 2 reach 0 reach none (lit< tt) (passed 2 (lit< tt))))
 
     -- channel 3 is refused; or 4 is; or both are whole
-    pub track_no_u : (n : ℕ) → run (channel (track_at s track) 3) s reach ≡ refused n → tracked ≡ Refused n
+    pub track_no_u : (n : ℕ) → run (channel (track_at s track) 3) s reach ≡ refused n → tracked ≡ refused n
     track_no_u n e = first_three ∙ stop 3 reach 0 n (lit< tt) e
 
     module _ (u : Curve Float) (far : ℕ) (e : run (channel (track_at s track) 3) s reach ≡ accepted far u) where
       first_four : tracked ≡ left 4 far (sample_count u)
       first_four = first_three ∙ (go_on 3 reach 0 far u (lit< tt) e ∙ ap (left 4 far) (zero-add (sample_count u)))
 
-      pub track_no_v : (n : ℕ) → run (channel (track_at s track) 4) s far ≡ refused n → tracked ≡ Refused n
+      pub track_no_v : (n : ℕ) → run (channel (track_at s track) 4) s far ≡ refused n → tracked ≡ refused n
       track_no_v n q = first_four ∙ stop 4 far (sample_count u) n (lit< tt) q
 
-      pub track_whole : (v : Curve Float) (end : ℕ) → run (channel (track_at s track) 4) s far ≡ accepted end v → tracked ≡ Whole end (sample_count u + sample_count v)
+      pub track_whole : (v : Curve Float) (end : ℕ) → run (channel (track_at s track) 4) s far ≡ accepted end v → tracked ≡ accepted end (sample_count u + sample_count v)
       track_whole v end q = first_four ∙ (go_on 4 far (sample_count u) end v (lit< tt) q ∙ all sample_count (channel (track_at s track)) s channel_numbers 0 5 end (sample_count u + sample_count v) (lit≤ tt))
 
 -- ---- the entry
@@ -160,21 +160,21 @@ module _ (s : List ℕ) where
     unfolding run bind material_animation
     header_read = had _ _ _ _ (omega arith) (had _ _ _ _ (omega arith) (had _ _ _ _ h refl))
 
-    pub block_refused : (n : ℕ) → BlockReads s 8 40 8 (BlockRead.Refused n) → run material_animation s 0 ≡ refused n
-    block_refused n w = header_read ∙ stops _ _ _ _ n w.reads
+    pub block_refused : (e : Refusal) → BlockReads s 8 40 8 (Err e) → run material_animation s 0 ≡ refused (refusal_number e)
+    block_refused e w = header_read ∙ stops _ _ _ _ (refusal_number e) w.reads
 
-    module _ (b : InfoBlock) (w : (reach : ℕ) → BlockReads s 8 40 reach (BlockRead.Whole b)) where
+    module _ (b : InfoBlock) (w : (reach : ℕ) → BlockReads s 8 40 reach (Ok b)) where
       abbrev block : Block
       block = block_at s 40 b
 
       block_read : run material_animation s 0 ≡ run (after_block block) s b.end
       block_read = let i = (w 8).holds in header_read ∙ goes_on _ _ _ _ _ _ ((w 8).reads ∙ to _ _ _ (max_right 8 b.end (omega arith)))
 
-      module _ (r : Tally) (e : r ≡ tally_of (total track_samples) (run (each channels block.datums) s b.end)) where
-        pub tracks_refused : (n : ℕ) → r ≡ Refused n → run material_animation s 0 ≡ refused n
+      module _ (r : Outcome ℕ) (e : r ≡ tally_of (total track_samples) (run (each channels block.datums) s b.end)) where
+        pub tracks_refused : (n : ℕ) → r ≡ refused n → run material_animation s 0 ≡ refused n
         tracks_refused n q = block_read ∙ stops _ _ _ _ n (uncounted_of _ _ n (sym e ∙ q))
 
-        pub tracks_whole : (m n frames : ℕ) → r ≡ Whole m n → frames ≡ word_at 2 s 4 → WholeMaterial s (record { frames = frames; block = b; reach = m; samples = n })
+        pub tracks_whole : (m n frames : ℕ) → r ≡ accepted m n → frames ≡ word_at 2 s 4 → WholeMaterial s (record { frames = frames; block = b; reach = m; samples = n })
         unfolding run
         tracks_whole m n frames q f =
             let v = counted_of (total track_samples) (run (each channels block.datums) s b.end) m n (sym e ∙ q) in

@@ -1,14 +1,12 @@
 -- What the code of lib.rt answers: where the channels of an entry stand. Assumes nothing.
-use Rattle.std.specs.Prelude.{ℕ, ◌≤◌, List, ◌≡◌, length, take, drop, Float}
-use Rattle.std.proofs.Math.Option.{Option, none, some}
-use Rattle.util.specs.Reader.{Outcome, accepted, refused, run, each}
+use Rattle.std.specs.Prelude.{ℕ, ◌≤◌, List, ◌≡◌, length, take, drop, Float, Result}
+use Rattle.util.specs.declared.refusal.Refusal.{Refusal}
+use Rattle.util.specs.Reader.{Outcome, accepted, run, each}
 use Rattle.util.specs.ReaderCode.{Reads}
 use Rattle.util.specs.Sums.{total}
 use Rattle.material_animation.specs.declared.MaterialAnimation.{MaterialAnimation as Known}
-use Rattle.material_animation.specs.declared.MatAnimRead.{MatAnimRead}
-use Rattle.material_animation.specs.declared.ChannelRead.{ChannelRead}
 use Rattle.material_animation.specs.declared.Shift.{Shift as CodeShift}
-use Rattle.material_animation.specs.declared.ShiftFound.{ShiftFound}
+use Rattle.curve.specs.declared.ScalarCurve.{ScalarCurve}
 use Rattle.curve.specs.Curve.{Curve}
 use Rattle.curve.specs.CurveCode.{scalar_curve, Inside}
 use Rattle.info_block.specs.InfoBlockCode.{block_at, WholeBlock}
@@ -20,17 +18,13 @@ track_at s at = take 40 (drop at s)
 
 -- ---- a channel
 
-abbrev pub channel_means : List ℕ → ChannelRead → Outcome (Curve Float)
-channel_means s (ChannelRead.Whole c m) = accepted m (scalar_curve s c)
-channel_means s (ChannelRead.Refused n) = refused n
+-- a channel that was read: its curve, and the reach after it
+abbrev pub channel_means : List ℕ → ScalarCurve × ℕ → Outcome (Curve Float)
+channel_means s c = accepted c.1 (scalar_curve s c.0)
 
 -- a list that was read stands in the section
-abbrev pub ChannelInside : List ℕ → ChannelRead → Type 0
-ChannelInside s (ChannelRead.Whole c m) = Inside s c
-ChannelInside s (ChannelRead.Refused n) = Unit {0}
-
-abbrev pub ChannelReads : List ℕ → ℕ → ℕ → ℕ → ChannelRead → Type 0
-ChannelReads s at n reach x = Reads (channel_means s) (ChannelInside s) (channel (track_at s at) n) s reach x
+abbrev pub ChannelReads : List ℕ → ℕ → ℕ → ℕ → Result (ScalarCurve × ℕ) Refusal → Type 0
+ChannelReads s at n reach x = Reads (channel_means s) (λ c. Inside s c.0) (channel (track_at s at) n) s reach x
 
 -- v is the value of channel n at a frame, where `sampled` gives a curve's
 abbrev pub ChannelGives : List ℕ → ℕ → ℕ → (Curve Float → Float) → Float → Type 0
@@ -54,15 +48,7 @@ pub record WholeMaterial (s : List ℕ) (a : Known) : Type 0 where
   pub samples : total track_samples held.tracks ≡ a.samples
   pub inside : a.reach ≤ length s
 
-abbrev pub MaterialIs : List ℕ → MatAnimRead → Type 0
-MaterialIs s (MatAnimRead.Whole a) = WholeMaterial s a
-MaterialIs s (MatAnimRead.Refused n) = run material_animation s 0 ≡ refused n
-
--- ---- a shift, and that of a name
+-- ---- a shift
 
 abbrev pub shift_means : CodeShift → Shift
 shift_means s = record { u = s.u; v = s.v }
-
-abbrev pub shift_found_means : ShiftFound → Option Shift
-shift_found_means (ShiftFound.At shift) = some (shift_means shift)
-shift_found_means ShiftFound.Nothing = none

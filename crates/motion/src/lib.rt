@@ -11,41 +11,31 @@ ghost use Rattle.calls.specs.Calls as calls;
 ghost use Rattle.calls.specs.Kinds.{section_kind};
 ghost use Rattle.calls.specs.AnswersCode.{found_means};
 
-use calls::Found;
-use info_block::BlockRead;
-use info_block::name::{NameFound, find_name};
-use nitro::container::{StampRead, read_section, read_stamp};
-use nitro::entry::{EntryCheck, check_entry};
+use info_block::name::find_name;
+use nitro::container::{Kind, read_section, read_stamp};
+use nitro::entry::{Checked, check_entry};
+use util::refusal::Refusal;
 
 // The kind of the section: the number, or the kind that its stamp says.
-pub fn kind(s: &[u8]) -> StampRead
+pub fn kind(s: &[u8]) -> Result<Kind, Refusal>
     ensures { stamp_means result ≡ section_kind s.now }
 {
     read_stamp(s)
 }
 
 // The entry check: the number, or the record.
-pub fn check(s: &[u8], entry: usize) -> EntryCheck
+pub fn check(s: &[u8], entry: usize) -> Result<Checked, Refusal>
     ensures { check_means result ≡ answer (calls.check entry) s.now }
 {
-    match read_stamp(s) {
-        StampRead::Refused(n) => EntryCheck::Refused(n),
-        StampRead::Whole(kind) => check_entry(s, kind, entry),
-    }
+    let kind = read_stamp(s)?;
+    check_entry(s, kind, entry)
 }
 
 // The index of the earliest entry with this name, or none if there is no such entry.
-pub fn find(s: &[u8], name: &[u8; 16]) -> Found
+pub fn find(s: &[u8], name: &[u8; 16]) -> Result<Option<usize>, Refusal>
     ensures { found_means result ≡ told (answer (calls.find name.now) s.now) }
 {
-    match read_stamp(s) {
-        StampRead::Refused(n) => Found::Refused(n),
-        StampRead::Whole(kind) => match read_section(s) {
-            BlockRead::Refused(n) => Found::Refused(n),
-            BlockRead::Whole(b) => match find_name(s, b.names, b.count, name) {
-                NameFound::At(i) => Found::At(i),
-                NameFound::Nothing => Found::Nothing,
-            },
-        },
-    }
+    read_stamp(s)?;
+    let b = read_section(s)?;
+    Ok(find_name(s, b.names, b.count, name))
 }

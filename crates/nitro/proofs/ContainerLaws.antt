@@ -8,6 +8,7 @@ use native.Mathlib.Omega.{arith}
 use borrow.Author.Tests.{le-ltb, lt-ltb, ltb-true}
 use lib.Dec.{ltb, lit≤}
 use lib.ListN.{length, take, drop, get_or}
+use Rattle.std.specs.Prelude.{Ok}
 use Rattle.util.specs.View.{little, word_at, same}
 use Rattle.util.specs.Reader.{Reader, done, Outcome, accepted, refused, ends, run, bind, unless, Verdict, answered, denied, tell}
 use Rattle.util.specs.Place.{within, moved, raised}
@@ -18,7 +19,6 @@ use Rattle.util.proofs.Cut.{le_or_lt, had, had_part, short, max_right}
 use Rattle.util.proofs.Place.{run_within, lowered}
 use Rattle.util.proofs.ViewLaws.{same_like, view_there}
 use Rattle.info_block.specs.declared.InfoBlock.{InfoBlock}
-use Rattle.info_block.specs.declared.BlockRead.{BlockRead}
 use Rattle.animation.specs.Animation.{animation}
 use Rattle.material_animation.specs.MaterialAnimation.{material_animation}
 use Rattle.pattern.specs.Pattern.{pattern}
@@ -26,7 +26,6 @@ use Rattle.info_block.specs.InfoBlock.{Block, info_block}
 use Rattle.info_block.specs.InfoBlockCode.{block_at}
 use Rattle.info_block.proofs.InfoBlockLaws.{block_even}
 use Rattle.nitro.specs.Container.{Kind, jnt, srt, pat, stamp_of, all_kinds, kind_of, stamped, section, Value, value, Entry, entry_in, entry, entry_of}
-use Rattle.nitro.specs.declared.container.EntryFound.{EntryFound}
 use Rattle.nitro.specs.ContainerCode.{HeaderReads, entry_from, EntryReads}
 
 -- equal stamps are of one kind
@@ -234,7 +233,7 @@ module _ (s : List ℕ) where
   header_run h = had _ _ _ _ h refl
 
 -- an entry of a section whose header is whole
-module _ (s : List ℕ) (i : ℕ) (b : InfoBlock) (w : HeaderReads s (BlockRead.Whole b)) where
+module _ (s : List ℕ) (i : ℕ) (b : InfoBlock) (w : HeaderReads s (Ok b)) where
   block_end : max 8 b.end ≡ b.end
   block_end = let x = w.holds in max_right 8 b.end (omega arith)
 
@@ -282,5 +281,5 @@ module _ (s : List ℕ) (i : ℕ) (b : InfoBlock) (w : HeaderReads s (BlockRead.
         run_bind_as (within off (value k)) (λ v. done (record { name = take 16 (drop (b.names + 16 * i) s); offset = off; held = v })) s b.end _ (value_within k off s b.end)
         ∙ by_outcome k off (run (value k) (drop off s) 0)
 
-    pub entry_stands : (off : ℕ) → off ≡ word_at 4 s (b.datums + 4 * i) → EntryReads s i (EntryFound.At (record { offset = off; name = b.names + 16 * i; end = b.end }))
+    pub entry_stands : (off : ℕ) → off ≡ word_at 4 s (b.datums + 4 * i) → EntryReads s i (Ok (record { offset = off; name = b.names + 16 * i; end = b.end }))
     entry_stands off e k = record { reads = in_block k ∙ (found off e k ∙ placed k off); holds = (name_place, w.holds.inside) }

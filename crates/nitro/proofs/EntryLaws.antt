@@ -1,21 +1,24 @@
 -- An entry opened and checked. Assumes nothing.
 use Prim.Native.Nat.{ℕ, ◌+◌, ◌-◌, ◌*◌, max, ◌≤◌, ◌<◌}
-use mathlib.Core.Bool.{true, false, false≢true}
 use mathlib.Core.List.{List, [], ◌∷◌}
 use mathlib.Core.Logic.{⊎_elim}
 use mathlib.Core.Path.{◌≡◌, refl, sym, ap, subst, ◌∙◌}
 use native.Mathlib.Omega.{arith}
-use borrow.Author.Tests.{eqb-false}
 use lib.ListN.{length, take, drop, length-drop}
 use lib.Seq.{take_all}
 use native.Mathlib.Nat.{le_of_eq}
+use Rattle.std.specs.Prelude.{Result, Ok}
+use Rattle.std.specs.Result.{IsErrAnd}
+use Rattle.util.specs.declared.refusal.Refusal.{Refusal}
+use Rattle.util.specs.Refusals.{number_of}
+use Rattle.util.specs.ReaderCode.{IsRead}
+use Rattle.util.proofs.TryLaws.{passed_on}
 use Rattle.util.specs.Reader.{done, Outcome, accepted, refused, run, bind, answered, denied}
 use Rattle.util.proofs.ReadsLaws.{goes_on, stops}
 use Rattle.util.proofs.Cut.{short}
 use Rattle.nitro.specs.declared.container.Kind.{Kind as CodeKind}
 use Rattle.nitro.specs.declared.container.Kind.TheVariants.{Jnt, Srt, Pat}
 use Rattle.nitro.specs.declared.container.EntryAt.{EntryAt}
-use Rattle.nitro.specs.declared.container.EntryFound.{EntryFound}
 use Rattle.nitro.specs.declared.entry.Held.{Held}
 use Rattle.animation.specs.Animation.{animation}
 use Rattle.material_animation.specs.MaterialAnimation.{material_animation}
@@ -25,7 +28,7 @@ use Rattle.info_block.specs.Name.{Name}
 use Rattle.pattern.specs.Pattern.{pattern}
 use Rattle.nitro.specs.Container.{Kind, jnt, srt, pat, all_kinds, kind_of, stamped, value, entry, EntryRecord, record_of, entry_of}
 use Rattle.nitro.specs.ContainerCode.{kind_means, entry_from, EntryReads}
-use Rattle.nitro.specs.EntryCode.{kind_number, same_kind, HeldIs, OpenReads}
+use Rattle.nitro.specs.EntryCode.{HeldIs, OpenReads}
 use Rattle.nitro.proofs.ContainerLaws.{taken, own, stamp_of_lem, stamp_taken, stamp_refused, stamp_none}
 
 -- an entry that no byte is left of
@@ -59,7 +62,7 @@ onward_end s off h = let l = length-drop off s in omega arith
 
 -- ---- the check
 
-module _ (k : Kind) (s : List ℕ) (i : ℕ) (e : EntryAt) (w : EntryReads s i (EntryFound.At e)) where
+module _ (k : Kind) (s : List ℕ) (i : ℕ) (e : EntryAt) (w : EntryReads s i (Ok e)) where
   abbrev checked : Outcome EntryRecord
   checked = run (bind (entry k i) (λ x. done (record_of k x))) s 4
 
@@ -75,30 +78,19 @@ module _ (k : Kind) (s : List ℕ) (i : ℕ) (e : EntryAt) (w : EntryReads s i (
 
 -- ---- kinds
 
-kinds_same : (a b : CodeKind) → same_kind a b ≡ true → kind_means a ≡ kind_means b
-kinds_same Jnt Jnt e = refl
-kinds_same Srt Srt e = refl
-kinds_same Pat Pat e = refl
-kinds_same Jnt Srt e = absurd (false≢true e)
-kinds_same Jnt Pat e = absurd (false≢true e)
-kinds_same Srt Jnt e = absurd (false≢true e)
-kinds_same Srt Pat e = absurd (false≢true e)
-kinds_same Pat Jnt e = absurd (false≢true e)
-kinds_same Pat Srt e = absurd (false≢true e)
+code_kind : Kind → CodeKind
+code_kind jnt = Jnt
+code_kind srt = Srt
+code_kind pat = Pat
 
-number : Kind → ℕ
-number jnt = 0
-number srt = 1
-number pat = 2
+round : (a : CodeKind) → code_kind (kind_means a) ≡ a
+unfolding code_kind
+round Jnt = refl
+round Srt = refl
+round Pat = refl
 
-number_of : (a : CodeKind) → kind_number a ≡ number (kind_means a)
-unfolding number
-number_of Jnt = refl
-number_of Srt = refl
-number_of Pat = refl
-
-kinds_differ : (a b : CodeKind) → same_kind a b ≡ false → kind_means a ≡ kind_means b → ⊥
-kinds_differ a b e q = eqb-false (kind_number a) (kind_number b) e (number_of a ∙ (ap number q ∙ sym (number_of b)))
+kinds_differ : (a b : CodeKind) → (a ≡ b → ⊥) → kind_means a ≡ kind_means b → ⊥
+kinds_differ a b d q = d (sym (round a) ∙ ap code_kind q ∙ round b)
 
 -- ---- an entry of the call's own kind
 
@@ -109,7 +101,7 @@ module _ (s : List ℕ) (i : ℕ) where
   open_unstamped k n e = stops _ _ _ _ n (stamp_none s n e k)
 
   module _ (a b : CodeKind) (e : run (stamped all_kinds) s 0 ≡ accepted 4 (kind_means a)) where
-    pub open_other : same_kind a b ≡ false → run (entry_of (kind_means b) i) s 0 ≡ refused 1
+    pub open_other : (a ≡ b → ⊥) → run (entry_of (kind_means b) i) s 0 ≡ refused 1
     unfolding entry_of
     open_other d =
         let w = stamp_of_lem s 4 (kind_means a) e in
@@ -118,8 +110,8 @@ module _ (s : List ℕ) (i : ℕ) where
         (λ (x : kind_of (kind_means b ∷ []) (take 4 s) ≡ denied 1). stops _ _ _ _ 1 (stamp_refused s w.0 (kind_means b) x))
         (taken (take 4 s) (kind_means a) (kind_means b) w.1)
 
-    pub stamp_same : same_kind a b ≡ true → run (stamped all_kinds) s 0 ≡ accepted 4 (kind_means b)
-    stamp_same d = e ∙ ap (λ (k : Kind). accepted 4 k) (kinds_same a b d)
+    pub stamp_same : a ≡ b → run (stamped all_kinds) s 0 ≡ accepted 4 (kind_means b)
+    stamp_same d = e ∙ ap (λ (k : CodeKind). accepted 4 (kind_means k)) d
 
   module _ (k : Kind) (e : run (stamped all_kinds) s 0 ≡ accepted 4 k) where
     pub stamped_room : 4 ≤ length s
@@ -131,13 +123,13 @@ module _ (s : List ℕ) (i : ℕ) where
         let w = stamp_of_lem s 4 k e in
         goes_on _ _ _ _ 4 k (stamp_taken s w.0 k (own (take 4 s) k w.1))
 
-    pub open_past : (t : EntryAt) → EntryReads s i (EntryFound.At t) → length s < t.offset → run (entry_of k i) s 0 ≡ refused 2
+    pub open_past : (t : EntryAt) → EntryReads s i (Ok t) → length s < t.offset → run (entry_of k i) s 0 ≡ refused 2
     open_past t w h = open_run ∙ ((w k).reads ∙ ap (entry_from k s t) (past_end k s t.offset h))
 
-    pub open_at : (t : EntryAt) → EntryReads s i (EntryFound.At t) → t.offset ≤ length s → OpenReads k s i (EntryFound.At t)
+    pub open_at : (t : EntryAt) → EntryReads s i (Ok t) → t.offset ≤ length s → OpenReads k s i (Ok t)
     open_at t w h = record { reads = open_run ∙ (w k).reads; holds = h }
 
 -- ---- an entry whose value is refused
 
-pub value_refused : (k : Kind) (s : List ℕ) (i : ℕ) (e : EntryAt) → OpenReads k s i (EntryFound.At e) → (n : ℕ) → run (value k) (drop e.offset s) 0 ≡ refused n → run (entry_of k i) s 0 ≡ refused n
+pub value_refused : (k : Kind) (s : List ℕ) (i : ℕ) (e : EntryAt) → OpenReads k s i (Ok e) → (n : ℕ) → run (value k) (drop e.offset s) 0 ≡ refused n → run (entry_of k i) s 0 ≡ refused n
 value_refused k s i e w n h = w.reads ∙ ap (entry_from k s e) h

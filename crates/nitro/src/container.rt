@@ -1,51 +1,46 @@
 // The section: its stamp, its info block, and where its entries stand.
-ghost use Rattle.std.specs.Prelude.{◌≡◌, ◌≤◌, length};
+ghost use Rattle.std.specs.Prelude.{◌≡◌, ◌≤◌, length, Ok};
 ghost use Rattle.util.specs.Reader.{run};
 ghost use Rattle.nitro.specs.Container.{all_kinds, stamped};
 ghost use Rattle.nitro.specs.ContainerCode.{stamp_means, HeaderReads, EntryReads};
 
-use info_block::{BlockRead, InfoBlock};
+use info_block::InfoBlock;
+use util::refusal::Refusal;
 use util::view::{starts_with, word32};
 
-#[derive(Clone, Copy)]
+#[derive(Clone, Copy, PartialEq, Eq)]
 pub enum Kind {
     Jnt,
     Srt,
     Pat,
 }
 
-#[derive(Clone, Copy)]
-pub enum StampRead {
-    Whole(Kind),
-    Refused(u8),
-}
-
 // The kind of section that the first four bytes say.
-pub fn read_stamp(s: &[u8]) -> StampRead
+pub fn read_stamp(s: &[u8]) -> Result<Kind, Refusal>
     ensures { run (stamped all_kinds) s.now 0 ≡ stamp_means result }
 {
     if s.len() < 4 {
-        return StampRead::Refused(2);
+        return Err(Refusal::TooShort);
     }
-    if starts_with(s, 0x4a, 0x4e, 0x54, 0x30) {
-        return StampRead::Whole(Kind::Jnt);
+    if starts_with(s, b"JNT0") {
+        return Ok(Kind::Jnt);
     }
-    if starts_with(s, 0x53, 0x52, 0x54, 0x30) {
-        return StampRead::Whole(Kind::Srt);
+    if starts_with(s, b"SRT0") {
+        return Ok(Kind::Srt);
     }
-    if starts_with(s, 0x50, 0x41, 0x54, 0x30) {
-        return StampRead::Whole(Kind::Pat);
+    if starts_with(s, b"PAT0") {
+        return Ok(Kind::Pat);
     }
-    StampRead::Refused(1)
+    Err(Refusal::WrongStamp)
 }
 
 // The rest of the section's header: the size, which is not used, and the info block.
-pub fn read_section(s: &[u8]) -> BlockRead
+pub fn read_section(s: &[u8]) -> Result<InfoBlock, Refusal>
     requires { 4 ≤ length s.now }
     ensures { HeaderReads s.now result }
 {
     if s.len() < 8 {
-        return BlockRead::Refused(2);
+        return Err(Refusal::TooShort);
     }
     info_block::read(s, 8, 4)
 }
@@ -58,32 +53,24 @@ pub struct EntryAt {
     pub end: usize,
 }
 
-#[derive(Clone, Copy)]
-pub enum EntryFound {
-    At(EntryAt),
-    Refused(u8),
-}
-
 // Entry i of a section whose stamp has been read.
-pub fn find_entry(s: &[u8], i: usize) -> EntryFound
+pub fn find_entry(s: &[u8], i: usize) -> Result<EntryAt, Refusal>
     requires { 4 ≤ length s.now }
     ensures { EntryReads s.now i result }
 {
-    match read_section(s) {
-        BlockRead::Refused(n) => EntryFound::Refused(n),
-        BlockRead::Whole(b) => entry_in(s, b, i),
-    }
+    let block = read_section(s)?;
+    entry_in(s, block, i)
 }
 
 // Entry i of an info block.
-fn entry_in(s: &[u8], b: InfoBlock, i: usize) -> EntryFound
-    requires { HeaderReads s.now (BlockRead.Whole b) }
+fn entry_in(s: &[u8], b: InfoBlock, i: usize) -> Result<EntryAt, Refusal>
+    requires { HeaderReads s.now (Ok b) }
     ensures { EntryReads s.now i result }
 {
     if b.count <= i {
-        return EntryFound::Refused(9);
+        return Err(Refusal::NoSuchIndex);
     }
-    EntryFound::At(EntryAt {
+    Ok(EntryAt {
         offset: word32(s, b.datums + 4 * i),
         name: b.names + 16 * i,
         end: b.end,

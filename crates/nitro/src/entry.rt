@@ -1,16 +1,21 @@
 // An entry of a section: its kind, where it stands, what it holds.
-ghost use Rattle.std.specs.Prelude.{◌≡◌, ◌≤◌, length};
+ghost use Rattle.std.specs.Prelude.{List, ◌≡◌, ℕ, ◌≤◌, length, Ok};
 ghost use Rattle.util.specs.Reader.{accepted, done, bind, run};
-ghost use Rattle.nitro.specs.Container.{all_kinds, stamped, entry, record_of};
+ghost use Rattle.util.specs.ReaderCode.{IsRead};
+ghost use Rattle.animation.specs.AnimationCode.{WholeAnimation};
+ghost use Rattle.material_animation.specs.MaterialAnimationCode.{WholeMaterial};
+ghost use Rattle.pattern.specs.PatternCode.{WholePattern};
+ghost use Rattle.nitro.specs.Container as spec;
+ghost use Rattle.nitro.specs.Container.{jnt, srt, pat, all_kinds, stamped, value, entry, record_of};
 ghost use Rattle.nitro.specs.ContainerCode.{kind_means, EntryReads};
-ghost use Rattle.nitro.specs.EntryCode.{check_means, kind_number, same_kind, ValueIs, OpenReads, AnimationOpens, MaterialOpens, PatternOpens};
+ghost use Rattle.nitro.specs.EntryCode.{check_means, HeldIs, ValueIs, OpenReads, Opens};
 
-use crate::container::{EntryAt, EntryFound, Kind, StampRead, find_entry, read_stamp};
-use animation::{Animation, AnimationRead, read_animation};
+use crate::container::{EntryAt, Kind, find_entry, read_stamp};
+use animation::{Animation, read_animation};
 use info_block::name::{Name, name_at};
-use material_animation::{MatAnimRead, MaterialAnimation, read_mat_anim};
-use pattern::{Pattern, PatternRead, read_pattern};
-use util::cur::greater;
+use material_animation::{MaterialAnimation, read_mat_anim};
+use pattern::{Pattern, read_pattern};
+use util::refusal::Refusal;
 
 // What the check finds of a whole entry: its record and its reach. `count` is how many objects or tracks it has, `samples` how long its lists
 // are together.
@@ -23,12 +28,6 @@ pub struct Checked {
     pub samples: u64,
 }
 
-#[derive(Clone, Copy)]
-pub enum EntryCheck {
-    Whole(Checked),
-    Refused(u8),
-}
-
 // What an entry holds, counted from the entry.
 #[derive(Clone, Copy)]
 pub struct Held {
@@ -38,210 +37,167 @@ pub struct Held {
     pub reach: usize,
 }
 
-#[derive(Clone, Copy)]
-pub enum ValueRead {
-    Whole(Held),
-    Refused(u8),
+// What is known of a whole entry of one kind of section.
+pub trait Entry: Copy {
+    // the kind, and what is so of a value that was read of these bytes
+    ghost kind: { spec.Kind };
+
+    ghost Whole: { List ℕ → Self → Type 0 };
+
+    fn kind() -> Kind
+        ensures { kind_means result ≡ kind };
+
+    // The entry that s starts with.
+    fn read(s: &[u8]) -> Result<Self, Refusal>
+        ensures { IsRead (Whole s.now) (run (value kind) s.now 0) result };
+
+    fn held(self) -> Held
+        ensures { (s : List ℕ) → Whole s self → HeldIs kind s result };
 }
 
-fn read_jnt(s: &[u8]) -> ValueRead
-    ensures { ValueIs (kind_means Kind.Jnt) s.now result }
-{
-    match read_animation(s) {
-        AnimationRead::Refused(n) => ValueRead::Refused(n),
-        AnimationRead::Whole(a) => ValueRead::Whole(Held {
-            frames: a.frames,
-            count: a.objects,
-            samples: a.samples,
-            reach: a.reach,
-        }),
+impl Entry for Animation {
+    ghost kind = { jnt };
+
+    ghost Whole = { WholeAnimation };
+
+    fn kind() -> Kind {
+        Kind::Jnt
+    }
+
+    fn read(s: &[u8]) -> Result<Animation, Refusal> {
+        read_animation(s)
+    }
+
+    fn held(self) -> Held {
+        Held {
+            frames: self.frames,
+            count: self.objects,
+            samples: self.samples,
+            reach: self.reach,
+        }
     }
 }
 
-fn read_srt(s: &[u8]) -> ValueRead
-    ensures { ValueIs (kind_means Kind.Srt) s.now result }
-{
-    match read_mat_anim(s) {
-        MatAnimRead::Refused(n) => ValueRead::Refused(n),
-        MatAnimRead::Whole(a) => ValueRead::Whole(Held {
-            frames: a.frames,
-            count: a.block.count,
-            samples: a.samples,
-            reach: a.reach,
-        }),
+impl Entry for MaterialAnimation {
+    ghost kind = { srt };
+
+    ghost Whole = { WholeMaterial };
+
+    fn kind() -> Kind {
+        Kind::Srt
+    }
+
+    fn read(s: &[u8]) -> Result<MaterialAnimation, Refusal> {
+        read_mat_anim(s)
+    }
+
+    fn held(self) -> Held {
+        Held {
+            frames: self.frames,
+            count: self.block.count,
+            samples: self.samples,
+            reach: self.reach,
+        }
     }
 }
 
-fn read_pat(s: &[u8]) -> ValueRead
-    ensures { ValueIs (kind_means Kind.Pat) s.now result }
-{
-    match read_pattern(s) {
-        PatternRead::Refused(n) => ValueRead::Refused(n),
-        PatternRead::Whole(a) => ValueRead::Whole(Held {
-            frames: a.frames,
-            count: a.block.count,
-            samples: a.samples,
-            reach: a.reach,
-        }),
+impl Entry for Pattern {
+    ghost kind = { pat };
+
+    ghost Whole = { WholePattern };
+
+    fn kind() -> Kind {
+        Kind::Pat
+    }
+
+    fn read(s: &[u8]) -> Result<Pattern, Refusal> {
+        read_pattern(s)
+    }
+
+    fn held(self) -> Held {
+        Held {
+            frames: self.frames,
+            count: self.block.count,
+            samples: self.samples,
+            reach: self.reach,
+        }
     }
 }
 
-// What an entry of this kind holds; the slice starts at the entry.
-fn read_value(s: &[u8], kind: Kind) -> ValueRead
+// What the entry holds that s starts with.
+fn read_held<E: Entry>(s: &[u8]) -> Result<Held, Refusal>
+    ensures { ValueIs E.kind s.now result }
+{
+    Ok(E::read(s)?.held())
+}
+
+// .. an entry of this kind.
+fn read_value(s: &[u8], kind: Kind) -> Result<Held, Refusal>
     ensures { ValueIs (kind_means kind) s.now result }
 {
     match kind {
-        Kind::Jnt => read_jnt(s),
-        Kind::Srt => read_srt(s),
-        Kind::Pat => read_pat(s),
+        Kind::Jnt => read_held::<Animation>(s),
+        Kind::Srt => read_held::<MaterialAnimation>(s),
+        Kind::Pat => read_held::<Pattern>(s),
     }
 }
 
 // The entry that stands here.
-fn check_at(s: &[u8], kind: Kind, i: usize, e: EntryAt) -> EntryCheck
-    requires { EntryReads s.now i (EntryFound.At e) }
+fn check_at(s: &[u8], kind: Kind, i: usize, e: EntryAt) -> Result<Checked, Refusal>
+    requires { EntryReads s.now i (Ok e) }
     ensures { check_means result ≡ run (bind (entry (kind_means kind) i) (λ x. done (record_of (kind_means kind) x))) s.now 4 }
 {
     let off = e.offset as usize;
     if s.len() < off {
-        return EntryCheck::Refused(2);
+        return Err(Refusal::TooShort);
     }
-    match read_value(&s[off..], kind) {
-        ValueRead::Refused(n) => EntryCheck::Refused(n),
-        ValueRead::Whole(h) => EntryCheck::Whole(Checked {
-            name: name_at(s, e.name),
-            reach: greater(e.end, off + h.reach),
-            frames: h.frames,
-            count: h.count,
-            samples: h.samples,
-        }),
-    }
+    let held = read_value(&s[off..], kind)?;
+    Ok(Checked {
+        name: name_at(s, e.name),
+        reach: e.end.max(off + held.reach),
+        frames: held.frames,
+        count: held.count,
+        samples: held.samples,
+    })
 }
 
 // Entry i of a section whose stamp has been read.
-pub fn check_entry(s: &[u8], kind: Kind, i: usize) -> EntryCheck
+pub fn check_entry(s: &[u8], kind: Kind, i: usize) -> Result<Checked, Refusal>
     requires { 4 ≤ length s.now }
     ensures { check_means result ≡ run (bind (entry (kind_means kind) i) (λ x. done (record_of (kind_means kind) x))) s.now 4 }
 {
-    match find_entry(s, i) {
-        EntryFound::Refused(n) => EntryCheck::Refused(n),
-        EntryFound::At(e) => check_at(s, kind, i, e),
-    }
-}
-
-// Whether two kinds are the same.
-fn same_kind(a: Kind, b: Kind) -> bool
-    ensures { result ≡ same_kind a b }
-{
-    kind_number(a) == kind_number(b)
-}
-
-fn kind_number(k: Kind) -> u8
-    ensures { result ≡ kind_number k }
-{
-    match k {
-        Kind::Jnt => 0,
-        Kind::Srt => 1,
-        Kind::Pat => 2,
-    }
+    let e = find_entry(s, i)?;
+    check_at(s, kind, i, e)
 }
 
 // Entry i of a section of this kind, at an offset inside the section.
-pub fn open(s: &[u8], kind: Kind, i: usize) -> EntryFound
+pub fn open(s: &[u8], kind: Kind, i: usize) -> Result<EntryAt, Refusal>
     ensures { OpenReads (kind_means kind) s.now i result }
 {
-    match read_stamp(s) {
-        StampRead::Refused(n) => EntryFound::Refused(n),
-        StampRead::Whole(k) => {
-            if same_kind(k, kind) {
-                open_stamped(s, kind, i)
-            } else {
-                EntryFound::Refused(1)
-            }
-        }
+    if read_stamp(s)? == kind {
+        open_stamped(s, kind, i)
+    } else {
+        Err(Refusal::WrongStamp)
     }
 }
 
 // The same, once the stamp has been read.
-fn open_stamped(s: &[u8], kind: Kind, i: usize) -> EntryFound
+fn open_stamped(s: &[u8], kind: Kind, i: usize) -> Result<EntryAt, Refusal>
     requires { run (stamped all_kinds) s.now 0 ≡ accepted 4 (kind_means kind) }
     ensures { OpenReads (kind_means kind) s.now i result }
 {
-    match find_entry(s, i) {
-        EntryFound::Refused(n) => EntryFound::Refused(n),
-        EntryFound::At(e) => {
-            let off = e.offset as usize;
-            if s.len() < off {
-                return EntryFound::Refused(2);
-            }
-            EntryFound::At(e)
-        }
+    let e = find_entry(s, i)?;
+    if s.len() < e.offset as usize {
+        return Err(Refusal::TooShort);
     }
+    Ok(e)
 }
 
-// An entry that is whole: where it stands, and what is known of it.
-#[derive(Clone, Copy)]
-pub enum AnimationOpen {
-    At(EntryAt, Animation),
-    Refused(u8),
-}
-
-#[derive(Clone, Copy)]
-pub enum MaterialOpen {
-    At(EntryAt, MaterialAnimation),
-    Refused(u8),
-}
-
-#[derive(Clone, Copy)]
-pub enum PatternOpen {
-    At(EntryAt, Pattern),
-    Refused(u8),
-}
-
-// Entry i of a JNT0 section.
-pub fn open_animation(s: &[u8], i: usize) -> AnimationOpen
-    ensures { AnimationOpens s.now i result }
+// Entry i, of a section of its kind, if it is whole: where it stands, and what is known of it.
+pub fn open_whole<E: Entry>(s: &[u8], i: usize) -> Result<(EntryAt, E), Refusal>
+    ensures { Opens E.kind E.Whole s.now i result }
 {
-    match open(s, Kind::Jnt, i) {
-        EntryFound::Refused(n) => AnimationOpen::Refused(n),
-        EntryFound::At(e) => {
-            let off = e.offset as usize;
-            match read_animation(&s[off..]) {
-                AnimationRead::Refused(n) => AnimationOpen::Refused(n),
-                AnimationRead::Whole(a) => AnimationOpen::At(e, a),
-            }
-        }
-    }
-}
-
-// Entry i of an SRT0 section.
-pub fn open_material(s: &[u8], i: usize) -> MaterialOpen
-    ensures { MaterialOpens s.now i result }
-{
-    match open(s, Kind::Srt, i) {
-        EntryFound::Refused(n) => MaterialOpen::Refused(n),
-        EntryFound::At(e) => {
-            let off = e.offset as usize;
-            match read_mat_anim(&s[off..]) {
-                MatAnimRead::Refused(n) => MaterialOpen::Refused(n),
-                MatAnimRead::Whole(a) => MaterialOpen::At(e, a),
-            }
-        }
-    }
-}
-
-// Entry i of a PAT0 section.
-pub fn open_pattern(s: &[u8], i: usize) -> PatternOpen
-    ensures { PatternOpens s.now i result }
-{
-    match open(s, Kind::Pat, i) {
-        EntryFound::Refused(n) => PatternOpen::Refused(n),
-        EntryFound::At(e) => {
-            let off = e.offset as usize;
-            match read_pattern(&s[off..]) {
-                PatternRead::Refused(n) => PatternOpen::Refused(n),
-                PatternRead::Whole(a) => PatternOpen::At(e, a),
-            }
-        }
-    }
+    let e = open(s, E::kind(), i)?;
+    let off = e.offset as usize;
+    Ok((e, E::read(&s[off..])?))
 }

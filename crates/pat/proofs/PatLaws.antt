@@ -15,15 +15,15 @@ use Rattle.pattern.specs.declared.ItemList.{ItemList}
 use Rattle.pattern.specs.declared.Pattern.{Pattern}
 use Rattle.pattern.specs.Pattern.{Key, Names, Track, no_track, key_of, choice}
 use Rattle.pattern.specs.PatternCode.{ListedAt, WholePattern}
-use Rattle.pattern.proofs.PatternLaws.{track_count_lem, datum_inside, keys_inside, track_of_lem}
+use Rattle.pattern.proofs.PatternLaws.{track_count_lem, keys_inside, track_of_lem}
 use Rattle.nitro.specs.declared.container.EntryAt.{EntryAt}
 use Rattle.nitro.specs.Container.{pat}
 use Rattle.nitro.specs.EntryCode.{Opened}
-use Rattle.calls.specs.declared.ListAnswer.{ListAnswer}
+use Rattle.std.specs.Prelude.{Result, Ok, Err}
+use Rattle.util.specs.declared.refusal.Refusal.{Refusal}
 use Rattle.calls.specs.Calls.{Query, PatternQuery, chosen, keys, chosen_of, ask_pattern, of_pattern, pattern_name, texture_names, palette_names, ask, on, answer}
 use Rattle.calls.specs.AnswersCode.{list_answer_means}
 use Rattle.pat.specs.PatCode.{KeysAt, KeysAre}
-use Rattle.nitro.proofs.EntryLaws.{names_end}
 use Rattle.calls.proofs.CallsLaws.{asked, some_chosen}
 
 -- a word of what stands from an offset onward
@@ -31,9 +31,9 @@ word_onward : (n off q : ℕ) (s : List ℕ) → word_at n (drop off s) q ≡ wo
 word_onward n off q s = ap (λ (l : List ℕ). little (take n l)) (drop-drop q off s)
 
 -- a track's keys, by the answer's case
-pub keys_listed : (s : List ℕ) (i t : ℕ) (r : ListAnswer) → KeysAre s i t r → list_answer_means r ≡ told (answer (on pat i (of_pattern t keys)) s)
-keys_listed s i t (ListAnswer.List l) k = sym k.listed
-keys_listed s i t (ListAnswer.Refused n) k = sym (k keys)
+pub keys_listed : (s : List ℕ) (i t : ℕ) (r : Result ItemList Refusal) → KeysAre s i t r → list_answer_means r ≡ told (answer (on pat i (of_pattern t keys)) s)
+keys_listed s i t (Ok l) k = sym k.listed
+keys_listed s i t (Err e) k = sym (k keys)
 
 -- ---- the key that holds at a frame
 
@@ -57,13 +57,7 @@ module _ (s : List ℕ) (i : ℕ) (e : EntryAt) (a : Pattern) (w : Opened pat Wh
   said : (q : Query pat) → told (answer (on pat i q) s) ≡ ask q (record { name = take 16 (drop e.name s); offset = e.offset; held = w.whole.held })
   said q = asked pat s i q e w.stands a.reach w.whole.held w.whole.reads
 
-  -- the name lists stand in the section
-  pub textures_end : e.offset + a.textures.place ≤ length s
-  textures_end = let h = w.whole.textures_inside in let o = w.stands.holds in omega (arith, length-drop e.offset s)
-
-  pub palettes_end : e.offset + a.palettes.place ≤ length s
-  palettes_end = let h = w.whole.palettes_inside in let o = w.stands.holds in omega (arith, length-drop e.offset s)
-
+  -- the name lists
   pub textures_of : answered (record { place = e.offset + a.textures.place; length = a.textures.count }) ≡ told (answer (on pat i texture_names) s)
   unfolding ask
   textures_of = sym (said texture_names ∙ ap (λ (n : Names). answered (record { place = e.offset + n.place; length = n.count })) w.whole.textures)
@@ -73,9 +67,6 @@ module _ (s : List ℕ) (i : ℕ) (e : EntryAt) (a : Pattern) (w : Opened pat Wh
   palettes_of = sym (said palette_names ∙ ap (λ (n : Names). answered (record { place = e.offset + n.place; length = n.count })) w.whole.palettes)
 
   -- the names of the tracks
-  pub track_names_end : e.offset + (a.block.names + 16 * a.block.count) ≤ length s
-  track_names_end = names_end s e.offset 12 8 a.block w.stands.holds w.whole.block.holds
-
   pub name_of : (t : ℕ) (v : Verdict Name) → v ≡ name_among (view 16 (λ bs. bs) a.block.count (drop a.block.names here)) t → v ≡ told (answer (on pat i (pattern_name t)) s)
   unfolding ask
   name_of t v q = q ∙ sym (said (pattern_name t) ∙ ap (λ (l : List Name). name_among l t) w.whole.names)
@@ -89,12 +80,6 @@ module _ (s : List ℕ) (i : ℕ) (e : EntryAt) (a : Pattern) (w : Opened pat Wh
     abbrev datum : ℕ
     datum = a.block.datums + 8 * t
 
-    pub datum_end : e.offset + datum + 8 ≤ length s
-    datum_end =
-        let d = datum_inside here a w.whole t h in
-        let o = w.stands.holds in
-        omega (arith, length-drop e.offset s)
-
     -- the keys that the datum says
     module _ (l : ItemList) (k : ListedAt s (e.offset + datum + 6) 4 (e.offset + datum) l) where
       there : ListedAt here (datum + 6) 4 datum l
@@ -106,7 +91,7 @@ module _ (s : List ℕ) (i : ℕ) (e : EntryAt) (a : Pattern) (w : Opened pat Wh
             few = k.few;
           }
 
-      pub keys_at_lem : KeysAt s i t (record { place = e.offset + l.place; length = l.count })
+      pub keys_at_lem : KeysAt s i t (record { place = e.offset + l.place; count = l.count })
       unfolding ask ask_pattern
       keys_at_lem =
           let m : t < length tracks = rw (track_count_lem here a w.whole) h in

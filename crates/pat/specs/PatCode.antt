@@ -1,19 +1,18 @@
 -- What the code of pat finds of a track. Assumes nothing.
-use Rattle.std.specs.Prelude.{ℕ, ◌+◌, ◌*◌, ◌≤◌, List, ◌≡◌, length, drop}
-use Rattle.util.specs.View.{view}
+use Rattle.std.specs.Prelude.{ℕ, ◌+◌, ◌*◌, ◌≤◌, List, ◌≡◌, length, Result, MatchResult}
+use Rattle.util.specs.declared.refusal.Refusal.{Refusal}
+use Rattle.util.specs.Refusals.{number_of}
 use Rattle.util.specs.Reader.{answered, denied, told}
-use Rattle.pattern.specs.Pattern.{key_of}
+use Rattle.pattern.specs.PatternCode.{keys_at}
 use Rattle.nitro.specs.Container.{pat}
-use Rattle.calls.specs.declared.ListPlace.{ListPlace}
-use Rattle.calls.specs.declared.ListAnswer.{ListAnswer}
+use Rattle.pattern.specs.declared.ItemList.{ItemList}
 use Rattle.calls.specs.Calls.{PatternQuery, chosen, keys, chosen_of, of_pattern, on, answer}
 
 -- where the keys of track t of entry i stand: the calls on it are answered from them
-pub record KeysAt (s : List ℕ) (i t : ℕ) (l : ListPlace) : Type 0 where
-  pub inside : l.place + 4 * l.length ≤ length s
-  pub listed : told (answer (on pat i (of_pattern t keys)) s) ≡ answered (record { place = l.place; length = l.length })
-  pub choices : (frame : ℕ) → told (answer (on pat i (of_pattern t (chosen frame))) s) ≡ chosen_of (view 4 key_of l.length (drop l.place s)) frame
+pub record KeysAt (s : List ℕ) (i t : ℕ) (l : ItemList) : Type 0 where
+  pub inside : l.place + 4 * l.count ≤ length s
+  pub listed : told (answer (on pat i (of_pattern t keys)) s) ≡ answered (record { place = l.place; length = l.count })
+  pub choices : (frame : ℕ) → told (answer (on pat i (of_pattern t (chosen frame))) s) ≡ chosen_of (keys_at s l) frame
 
-abbrev pub KeysAre : List ℕ → ℕ → ℕ → ListAnswer → Type 0
-KeysAre s i t (ListAnswer.List l) = KeysAt s i t l
-KeysAre s i t (ListAnswer.Refused n) = (q : PatternQuery) → told (answer (on pat i (of_pattern t q)) s) ≡ denied n
+abbrev pub KeysAre : List ℕ → ℕ → ℕ → Result ItemList Refusal → Type 0
+KeysAre s i t x = MatchResult x (KeysAt s i t) (λ e. (q : PatternQuery) → told (answer (on pat i (of_pattern t q)) s) ≡ denied (number_of e))

@@ -1,12 +1,11 @@
 -- What a pattern's readers give is so few that all its tracks together have fewer than 2^40 keys. Assumes nothing.
 use Prim.Native.Nat.{ℕ, ◌≤◌, ◌<◌}
 use mathlib.Core.List.{List}
-use mathlib.Core.Path.{◌≡◌}
+use mathlib.Core.Path.{◌≡◌, refl}
 use native.Mathlib.Omega.{arith}
 use lib.ListN.{length, take, drop}
-use Rattle.util.specs.declared.cur.Tally.{Tally}
 use Rattle.util.specs.View.{word_at}
-use Rattle.util.specs.Reader.{run}
+use Rattle.util.specs.Reader.{accepted, run}
 use Rattle.util.specs.ReaderCode.{tally_of}
 use Rattle.util.specs.Sums.{total}
 use Rattle.util.proofs.All.{Bytes, bytes_drop, bytes_take, word_lt, Each, each_map, Many, All, length_all, all_bind, all_after, all_each}
@@ -30,10 +29,10 @@ keys_few textures palettes datum h =
     omega arith
 
 -- what code counts of a track's keys
-pub track_few : (textures palettes : ℕ) (s : List ℕ) → Bytes s → (at m : ℕ) (x : Tally) → x ≡ tally_of key_count (run (track textures palettes (take 8 (drop at s))) s m) → (j c : ℕ) → x ≡ Tally.Whole j c → c ≤ keys_bound
-track_few textures palettes s h at m =
+pub track_few : (textures palettes : ℕ) (s : List ℕ) → Bytes s → (at m j c : ℕ) → accepted j c ≡ tally_of key_count (run (track textures palettes (take 8 (drop at s))) s m) → c ≤ keys_bound
+track_few textures palettes s h at m j c e =
     let datum = take 8 (drop at s) in
-    tally_le key_count keys_bound (track textures palettes datum) (keys_few textures palettes datum (bytes_take 8 (drop at s) (bytes_drop at s h))) s h m
+    tally_le key_count keys_bound (track textures palettes datum) (keys_few textures palettes datum (bytes_take 8 (drop at s) (bytes_drop at s h))) s h m (accepted j c) e j c refl
 
 abbrev pub FewPattern : Pattern → Type 0
 FewPattern a = (length a.tracks < 256) × Each FewKeys a.tracks

@@ -1,5 +1,5 @@
 -- A pattern entry's keys, its tracks and its run, by what the entry's bytes hold. Assumes nothing.
-use Prim.Native.Nat.{ℕ, suc, ◌+◌, ◌-◌, ◌*◌, ◌/◌, min, max, ◌≤◌, ◌<◌}
+use Prim.Native.Nat.{ℕ, zero, suc, ◌+◌, ◌-◌, ◌*◌, ◌/◌, max, ◌≤◌, ◌<◌}
 use mathlib.Core.Bool.{Bool, true, false, ◌&&◌, and-true, and_assoc}
 use mathlib.Core.List.{List, [], ◌∷◌, ◌++◌}
 use mathlib.Core.Logic.{⊎_elim}
@@ -7,15 +7,16 @@ use mathlib.Core.Path.{◌≡◌, refl, sym, ap, ◌∙◌}
 use native.Mathlib.Nat.{add-zero}
 use native.Mathlib.Numerals.{add-one}
 use native.Mathlib.Omega.{arith}
-use borrow.Author.Tests.{lt-ltb, le-ltb, ltb-true, ltb-false}
+use borrow.Author.Tests.{lt-ltb, le-ltb}
 use lib.Dec.{ltb}
 use lib.ListN.{length, take, drop, get_or, drop_of_length-le}
 use lib.Seq.{drop-cons}
+use Rattle.std.specs.Prelude.{Ok, Err}
+use Rattle.util.specs.declared.refusal.Refusal.{Refusal}
+use Rattle.util.specs.Refusals.{number_of}
 use Rattle.util.specs.Bits.{bits}
-use Rattle.util.specs.View.{word_at, view}
-use Rattle.util.specs.declared.cur.Tally.{Tally}
-use Rattle.util.specs.declared.cur.Tally.TheVariants.{Whole, Refused}
-use Rattle.util.specs.Reader.{Reader, done, accepted, refused, run, bind, each, unless}
+use Rattle.util.specs.View.{word_at}
+use Rattle.util.specs.Reader.{Reader, done, Outcome, accepted, refused, run, bind, each, unless}
 use Rattle.util.specs.ReaderCode.{tally_of}
 use Rattle.util.specs.Sums.{total}
 use Rattle.util.proofs.All.{Bytes, word_lt}
@@ -24,13 +25,13 @@ use Rattle.util.proofs.ReadsLaws.{goes_on, stops, one_value, not_both}
 use Rattle.util.proofs.Each.{counted_of, uncounted_of, from_zero, items_read}
 use Rattle.util.proofs.ViewLaws.{word_join, word_part, view_there, view-length, view-take}
 use Rattle.info_block.specs.declared.InfoBlock.{InfoBlock}
-use Rattle.info_block.specs.declared.BlockRead.{BlockRead}
 use Rattle.pattern.specs.declared.ItemList.{ItemList}
 use Rattle.pattern.specs.declared.Pattern.{Pattern as Known}
+use Rattle.pattern.specs.declared.PatternKeyframe.{PatternKeyframe}
 use Rattle.info_block.specs.InfoBlock.{Block, info_block}
 use Rattle.info_block.specs.InfoBlockCode.{block_at, BlockReads}
 use Rattle.pattern.specs.Pattern.{Key, Track, Pattern, key_count, key_of, inside, track, pattern, first_later, choice}
-use Rattle.pattern.specs.PatternCode.{names_mean, ListedAt, WholePattern}
+use Rattle.pattern.specs.PatternCode.{key_means, keys_at, names_mean, ListedAt, WholePattern}
 
 -- ---- keys
 
@@ -40,14 +41,6 @@ key_at s p = record { frame = word_at 2 s p; texture = word_at 1 s (p + 2); pale
 
 pub key_there : (s : List ℕ) (p : ℕ) → key_of (take 4 (drop p s)) ≡ key_at s p
 key_there s p = rw (word_part 2 4 p 0 s (omega arith), word_part 1 4 p 2 s (omega arith), word_part 1 4 p 3 s (omega arith), add-zero p) refl
-
--- a word of three bytes is below `count` times 65536, or past a byte's 256 times, exactly if its highest byte is below `count`
-pub word_below : (word count : ℕ) → word < 16777216 → ltb word (65536 * min count 256) ≡ ltb (word / 65536) count
-word_below word count h = go (ltb (word / 65536) count) refl
-  where
-    go : (b : Bool) → b ≡ ltb (word / 65536) count → ltb word (65536 * min count 256) ≡ b
-    go true e = let l = ltb-true (word / 65536) count (sym e) in lt-ltb word (65536 * min count 256) (omega arith)
-    go false e = let l = ltb-false (word / 65536) count (sym e) in le-ltb word (65536 * min count 256) (omega arith)
 
 -- a key read as one word: the texture is the highest of its three low bytes, the palette of its three high ones
 pub key_word : (s : List ℕ) (p : ℕ) → Bytes s → p + 4 ≤ length s → (textures palettes : ℕ)
@@ -74,54 +67,75 @@ inside_append textures palettes (x ∷ xs) ys =
     let one = ltb x.texture textures && ltb x.palette palettes in
     ap (λ (b : Bool). one && b) (inside_append textures palettes xs ys) ∙ sym (and_assoc one (inside textures palettes xs) (inside textures palettes ys))
 
-module _ (s : List ℕ) (place count : ℕ) where
-  abbrev pub keys : List Key
-  keys = view 4 key_of count (drop place s)
+-- the first key of a later frame has index i where that is one and none before it is, or where there are i keys
+first_is : (ks : List Key) (d : Key) (frame i : ℕ) → i ≤ length ks → ((k : ℕ) → k < i → (get_or ks k d).frame ≤ frame) → (i < length ks → frame < (get_or ks i d).frame) → first_later ks frame ≡ i
+unfolding first_later
+first_is [] d frame i h b a = omega arith
+first_is (k ∷ ks) d frame zero h b a = rw (lt-ltb frame k.frame (a (omega arith))) refl
+first_is (k ∷ ks) d frame (suc i) h b a = rw (le-ltb frame k.frame (b 0 (omega arith))) (ap suc (first_is ks d frame i (omega arith) (λ j l. b (suc j) (omega arith)) (λ l. a (omega arith))))
 
-  pub keys_length : length keys ≡ count
-  keys_length = view-length 4 key_of count (drop place s)
+module _ (s : List ℕ) (l : ItemList) where
+  pub keys_length : length (keys_at s l) ≡ l.count
+  keys_length = view-length 4 key_of l.count (drop l.place s)
 
-  pub keys_end : (i : ℕ) → count ≤ i → drop i keys ≡ []
-  keys_end i h = let l : length keys ≤ i = rw keys_length h in drop_of_length-le keys l
+  -- the key that stands at index k
+  abbrev pub stands : ℕ → Key
+  stands k = key_of (take 4 (drop (l.place + 4 * k) s))
 
-  -- where k is key i
-  module _ (i : ℕ) (k : Key) (h : i < count) (e : k ≡ key_of (take 4 (drop (place + 4 * i) s))) where
-    keys_step : drop i keys ≡ k ∷ drop (i + 1) keys
-    keys_step =
-        let q : get_or keys i k ≡ k = view_there 4 key_of count i place s k h ∙ sym e in
-        let l : i < length keys = rw keys_length h in
-        rw (drop-cons keys i k l, add-one i) (ap (λ (x : Key). x ∷ drop (suc i) keys) q)
+  stands_there : (k : ℕ) (default : Key) → k < l.count → get_or (keys_at s l) k default ≡ stands k
+  stands_there k default h = view_there 4 key_of l.count k l.place s default h
 
-    -- `all` is whether the keys before i are inside, `one` whether key i is, `whole` whether all keys are
-    pub inside_next : (textures palettes : ℕ) (all one whole : Bool) → one ≡ inside textures palettes (key_of (take 4 (drop (place + 4 * i) s)) ∷ []) → all && inside textures palettes (drop i keys) ≡ whole
-        → (all && one) && inside textures palettes (drop (i + 1) keys) ≡ whole
-    inside_next textures palettes all one whole o inv =
-        let rest = drop (i + 1) keys in
-        let q : inside textures palettes (drop i keys) ≡ one && inside textures palettes rest = ap (inside textures palettes) keys_step ∙ inside_append textures palettes (k ∷ []) rest ∙ ap (λ (b : Bool). b && inside textures palettes rest) (ap (λ (x : Key). inside textures palettes (x ∷ [])) e ∙ sym o) in
-        and_assoc all one (inside textures palettes rest) ∙ ap (λ (b : Bool). all && b) (sym q) ∙ inv
+  -- `all` is whether the keys before k are inside, `one` whether key k is
+  pub inside_next : (k : ℕ) → k < l.count → (textures palettes : ℕ) (all one : Bool) → one ≡ inside textures palettes (stands k ∷ [])
+      → (all && one) && inside textures palettes (drop (k + 1) (keys_at s l)) ≡ all && inside textures palettes (drop k (keys_at s l))
+  inside_next k h textures palettes all one o =
+      let rest = drop (k + 1) (keys_at s l) in
+      let q : k < length (keys_at s l) = rw keys_length h in
+      let step : drop k (keys_at s l) ≡ stands k ∷ rest = rw (drop-cons (keys_at s l) k (stands k) q, add-one k, stands_there k (stands k) h) refl in
+      and_assoc all one (inside textures palettes rest)
+      ∙ ap (λ (b : Bool). all && b) (rw (step, o) (sym (inside_append textures palettes (stands k ∷ []) rest)))
 
-    -- `whole` is the index of the first key of a later frame, which is none before i
-    module _ (frame whole : ℕ) (inv : i + first_later (drop i keys) frame ≡ whole) where
-      later_first : i + first_later (k ∷ drop (i + 1) keys) frame ≡ whole
-      later_first = rw (← keys_step) inv
+  pub inside_all : (k : ℕ) → l.count ≤ k → (textures palettes : ℕ) (all : Bool) → all && inside textures palettes (drop k (keys_at s l)) ≡ all
+  unfolding inside
+  inside_all k h textures palettes all = let q : length (keys_at s l) ≤ k = rw keys_length h in rw (drop_of_length-le (keys_at s l) q) (and-true all)
 
-      pub is_later : frame < k.frame → i ≡ whole
-      unfolding first_later
-      is_later l = rw (lt-ltb frame k.frame l, add-zero i) at later_first
+  -- key k is of a later frame, or of none
+  module _ (frame : ℕ) where
+    abbrev pub Later : ℕ → Type 0
+    Later k = (key : PatternKeyframe) × (key_means key ≡ stands k) × (frame < key.frame)
 
-      pub not_later : k.frame ≤ frame → i + 1 + first_later (drop (i + 1) keys) frame ≡ whole
-      unfolding first_later
-      not_later l = let q : i + suc (first_later (drop (i + 1) keys) frame) ≡ whole = rw (le-ltb frame k.frame l) at later_first in omega arith
+    abbrev pub NotLater : ℕ → Type 0
+    NotLater k = (key : PatternKeyframe) × (key_means key ≡ stands k) × (key.frame ≤ frame)
 
-  pub none_later : (i frame whole : ℕ) → count ≤ i → i + first_later (drop i keys) frame ≡ whole → i ≡ whole
-  unfolding first_later
-  none_later i frame whole h inv = rw (keys_end i h, add-zero i) at inv
+    frame_at : (k : ℕ) → k < l.count → (key : PatternKeyframe) → key_means key ≡ stands k → (d : Key) → (get_or (keys_at s l) k d).frame ≡ key.frame
+    frame_at k h key e d = ap (λ (x : Key). x.frame) (stands_there k d h ∙ sym e)
+
+    not_later_at : (k : ℕ) → k < l.count → NotLater k → (d : Key) → (get_or (keys_at s l) k d).frame ≤ frame
+    not_later_at k h w d =
+        let e = frame_at k h w.0 w.1 d in
+        let q : w.0.frame ≤ frame = w.2 in
+        omega arith
+
+    abbrev First : ℕ → Type 0
+    First i = (i ≡ first_later (keys_at s l) frame) × (i ≤ l.count)
+
+    -- i is the first index whose key is of a later frame
+    pub found_later : (i : ℕ) → i < l.count → Later i → ((k : ℕ) → k < i → NotLater k) → First i
+    found_later i h w before =
+        let n : i ≤ length (keys_at s l) = omega (arith, keys_length) in
+        let e = frame_at i h w.0 w.1 (stands 0) in
+        let q : frame < w.0.frame = w.2 in
+        (sym (first_is (keys_at s l) (stands 0) frame i n (λ k b. not_later_at k (omega arith) (before k b) (stands 0)) (λ _. omega arith)), omega arith)
+
+    -- none is
+    pub none_later : ((k : ℕ) → k < l.count → NotLater k) → First l.count
+    none_later before =
+        (sym (first_is (keys_at s l) (stands 0) frame l.count (omega (arith, keys_length)) (λ k q. not_later_at k q (before k q) (stands 0)) (λ q. omega (arith, keys_length))), omega arith)
 
   -- key j is the choice where j comes before the first key of a later frame, or both are 0
-  pub chosen : (frame later j : ℕ) (k : Key) → later ≡ first_later keys frame → later - 1 ≡ j → j < count → k ≡ key_of (take 4 (drop (place + 4 * j) s))
-      → (default : Key) → k ≡ choice keys default frame
+  pub chosen : (frame later j : ℕ) (k : Key) → later ≡ first_later (keys_at s l) frame → later - 1 ≡ j → j < l.count → k ≡ stands j → (default : Key) → k ≡ choice (keys_at s l) default frame
   unfolding choice
-  chosen frame later j k l q h e default = rw (← l, q) (e ∙ sym (view_there 4 key_of count j place s default h))
+  chosen frame later j k e q h w default = rw (← e, q) (w ∙ sym (stands_there j default h))
 
 -- ---- a track
 
@@ -140,12 +154,12 @@ module _ (textures palettes : ℕ) (s : List ℕ) (datum m : ℕ) (l : ItemList)
   unfolding run bind track
   track_short h = rw (where_at, how_many) (short _ _ _ h)
 
-  module _ (h : l.place + 4 * l.count ≤ length s) (b : Bool) (e : b ≡ inside textures palettes (keys s l.place l.count)) where
+  module _ (h : l.place + 4 * l.count ≤ length s) (b : Bool) (e : b ≡ inside textures palettes (keys_at s l)) where
     pub track_outside : b ≡ false → run datum_track s m ≡ refused 8
     unfolding run bind track unless
     track_outside q = rw (where_at, how_many, view-take 4 key_of l.count (drop l.place s), ← e, q) (had _ _ _ _ h refl)
 
-    pub track_whole : b ≡ true → run datum_track s m ≡ accepted (max m (l.place + 4 * l.count)) (record { place = l.place; keys = keys s l.place l.count })
+    pub track_whole : b ≡ true → run datum_track s m ≡ accepted (max m (l.place + 4 * l.count)) (record { place = l.place; keys = keys_at s l })
     unfolding run bind track unless
     track_whole q = rw (where_at, how_many, view-take 4 key_of l.count (drop l.place s), ← e, q) (had _ _ _ _ h refl)
 
@@ -154,10 +168,10 @@ module _ (textures palettes : ℕ) (s : List ℕ) (datum m : ℕ) (l : ItemList)
     pub track_keys_end : l.place + 4 * l.count ≤ length s
     track_keys_end = ⊎_elim (λ (h : l.place + 4 * l.count ≤ length s). h) (λ (h : length s < l.place + 4 * l.count). absurd (not_both a (track_short h))) (le_or_lt (l.place + 4 * l.count) (length s))
 
-    pub track_is : t ≡ record { place = l.place; keys = keys s l.place l.count }
-    track_is = go (inside textures palettes (keys s l.place l.count)) refl
+    pub track_is : t ≡ record { place = l.place; keys = keys_at s l }
+    track_is = go (inside textures palettes (keys_at s l)) refl
       where
-        go : (b : Bool) → b ≡ inside textures palettes (keys s l.place l.count) → t ≡ record { place = l.place; keys = keys s l.place l.count }
+        go : (b : Bool) → b ≡ inside textures palettes (keys_at s l) → t ≡ record { place = l.place; keys = keys_at s l }
         go true e = one_value a (track_whole track_keys_end true e refl)
         go false e = absurd (not_both a (track_outside track_keys_end false e refl))
 
@@ -198,21 +212,21 @@ module _ (s : List ℕ) (t p : ItemList) (et : ListedAt s 8 1 6 t) (ep : ListedA
         rw (← et.place, ← et.count, ← ep.place, ← ep.count)
         (had _ _ _ _ (omega arith) (had _ _ _ _ (omega arith) (had _ _ _ _ (omega arith) (had _ _ _ _ (omega arith) (had _ _ _ _ (omega arith) (had _ _ _ _ (omega arith) (had _ _ _ _ ht (had _ _ _ _ hp refl))))))))
 
-    pub block_refused : (n : ℕ) → BlockReads s 12 8 before (BlockRead.Refused n) → run pattern s 0 ≡ refused n
-    block_refused n w = names_had ∙ stops _ _ _ _ n w.reads
+    pub block_refused : (e : Refusal) → BlockReads s 12 8 before (Err e) → run pattern s 0 ≡ refused (number_of e)
+    block_refused e w = names_had ∙ stops _ _ _ _ (number_of e) w.reads
 
-    module _ (k : InfoBlock) (w : (reach : ℕ) → BlockReads s 12 8 reach (BlockRead.Whole k)) (start : ℕ) (es : start ≡ max before k.end) where
+    module _ (k : InfoBlock) (w : (reach : ℕ) → BlockReads s 12 8 reach (Ok k)) (start : ℕ) (es : start ≡ max before k.end) where
       abbrev block : Block
       block = block_at s 8 k
 
       block_read : run pattern s 0 ≡ run (after_block block) s start
       block_read = names_had ∙ (goes_on _ _ _ _ _ _ (w before).reads ∙ ap (run (after_block block) s) (sym es))
 
-      module _ (o : Tally) (e : o ≡ tally_of (total key_count) (run (tracks_of block) s start)) where
-        pub tracks_refused : (n : ℕ) → o ≡ Refused n → run pattern s 0 ≡ refused n
+      module _ (o : Outcome ℕ) (e : o ≡ tally_of (total key_count) (run (tracks_of block) s start)) where
+        pub tracks_refused : (n : ℕ) → o ≡ refused n → run pattern s 0 ≡ refused n
         tracks_refused n q = block_read ∙ stops _ _ _ _ n (uncounted_of _ _ n (sym e ∙ q))
 
-        pub tracks_whole : (f reach samples : ℕ) → f ≡ word_at 2 s 4 → o ≡ Whole reach samples → WholePattern s (record { frames = f; textures = t; palettes = p; block = k; reach = reach; samples = samples })
+        pub tracks_whole : (f reach samples : ℕ) → f ≡ word_at 2 s 4 → o ≡ accepted reach samples → WholePattern s (record { frames = f; textures = t; palettes = p; block = k; reach = reach; samples = samples })
         unfolding run
         tracks_whole f reach samples ef q =
             let r = counted_of (total key_count) (run (tracks_of block) s start) reach samples (sym e ∙ q) in
@@ -256,5 +270,5 @@ module _ (s : List ℕ) (a : Known) (w : WholePattern s a) where
       pub keys_inside : l.place + 4 * l.count ≤ length s
       keys_inside = track_keys_end _ _ s datum 0 l at _ _ (tracks_are.1 i d h).1
 
-      pub track_of_lem : get_or w.held.tracks i d ≡ record { place = l.place; keys = keys s l.place l.count }
+      pub track_of_lem : get_or w.held.tracks i d ≡ record { place = l.place; keys = keys_at s l }
       track_of_lem = track_is _ _ s datum 0 l at _ _ (tracks_are.1 i d h).1

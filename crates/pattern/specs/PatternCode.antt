@@ -1,22 +1,26 @@
 -- What the code of lib.rt answers: where the lists of an entry stand. Assumes nothing.
-use Rattle.std.specs.Prelude.{ℕ, ◌+◌, ◌*◌, ◌^◌, ◌≤◌, ◌<◌, List, [], ◌≡◌, length}
+use Rattle.std.specs.Prelude.{ℕ, ◌+◌, ◌*◌, ◌^◌, ◌≤◌, ◌<◌, List, [], ◌≡◌, length, drop, Option as CodeOption, Some, None, Result, Ok, Err}
 use Rattle.std.proofs.Math.Option.{Option, none, some}
-use Rattle.util.specs.View.{word_at}
-use Rattle.util.specs.Reader.{accepted, refused, run, each}
+use Rattle.util.specs.declared.refusal.Refusal.{Refusal}
+use Rattle.util.specs.Refusals.{number_of}
+use Rattle.util.specs.View.{word_at, view}
+use Rattle.util.specs.Reader.{accepted, run, each}
 use Rattle.util.specs.Sums.{total}
 use Rattle.pattern.specs.declared.ItemList.{ItemList}
 use Rattle.pattern.specs.declared.Pattern.{Pattern as Known}
 use Rattle.pattern.specs.declared.PatternKeyframe.{PatternKeyframe}
-use Rattle.pattern.specs.declared.PatternRead.{PatternRead}
-use Rattle.pattern.specs.declared.KeyFound.{KeyFound}
 use Rattle.info_block.specs.InfoBlockCode.{block_at, WholeBlock}
-use Rattle.pattern.specs.Pattern.{Key, key_count, Names, Pattern, track, pattern, choice}
+use Rattle.pattern.specs.Pattern.{Key, key_count, key_of, Names, Pattern, track, pattern, choice}
 
 abbrev pub key_means : PatternKeyframe → Key
 key_means k = record { frame = k.frame; texture = k.texture_idx.0; palette = k.palette_idx.0 }
 
 abbrev pub names_mean : ItemList → Names
 names_mean n = record { place = n.place; count = n.count }
+
+-- the keys that stand there
+abbrev pub keys_at : List ℕ → ItemList → List Key
+keys_at s l = view 4 key_of l.count (drop l.place s)
 
 -- a list whose offset, a word of two bytes, stands at p, and whose count, a word of n bytes, at c
 pub record ListedAt (s : List ℕ) (p n c : ℕ) (l : ItemList) : Type 0 where
@@ -40,10 +44,6 @@ pub record WholePattern (s : List ℕ) (a : Known) : Type 0 where
   pub samples : total key_count held.tracks ≡ a.samples
   pub inside : a.reach ≤ length s
 
-abbrev pub PatternIs : List ℕ → PatternRead → Type 0
-PatternIs s (PatternRead.Whole a) = WholePattern s a
-PatternIs s (PatternRead.Refused n) = run pattern s 0 ≡ refused n
-
 -- ---- what a name's track chooses at a frame, from its keys
 
 -- the key that holds at a frame: there are keys, and it is their choice
@@ -53,7 +53,8 @@ pub record Holds (keys : Option (List Key)) (frame : ℕ) (k : PatternKeyframe) 
   pub some_key : 1 ≤ length all
   pub chosen : (default : Key) → key_means k ≡ choice all default frame
 
-abbrev pub KeyIs : Option (List Key) → ℕ → KeyFound → Type 0
-KeyIs keys frame (KeyFound.At k) = Holds keys frame k
-KeyIs keys frame KeyFound.Empty = keys ≡ some []
-KeyIs keys frame KeyFound.Nothing = keys ≡ none
+-- .. or there is no track of the name; or it has no keys, which is refused
+abbrev pub KeyIs : Option (List Key) → ℕ → Result (CodeOption PatternKeyframe) Refusal → Type 0
+KeyIs keys frame (Ok (Some k)) = Holds keys frame k
+KeyIs keys frame (Ok None) = keys ≡ none
+KeyIs keys frame (Err e) = (keys ≡ some []) × (number_of e ≡ 10)

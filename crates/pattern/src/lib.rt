@@ -4,26 +4,27 @@
 ghost use Rattle.std.specs.Prelude.{[], ◌∷◌, ◌≡◌, ◌+◌, ◌*◌, ◌/◌, min, ◌<◌, ◌≤◌, ltb, length, take, drop};
 ghost use Rattle.util.specs.View.{view};
 ghost use Rattle.util.specs.Reader.{run, each};
-ghost use Rattle.util.specs.ReaderCode.{tally_of};
+ghost use Rattle.util.specs.ReaderCode.{IsRead, outcome, tally_of, tallied};
 ghost use Rattle.util.specs.Sums.{total};
-ghost use Rattle.pattern.specs.Pattern.{Key, key_count, key_of, inside, track, first_later, choice, keys_of};
-ghost use Rattle.pattern.specs.PatternCode.{key_means, ListedAt, WholePattern, PatternIs, KeyIs};
+ghost use Rattle.pattern.specs.Pattern.{Key, key_count, key_of, inside, track, pattern, first_later, choice, keys_of};
+ghost use Rattle.pattern.specs.PatternCode.{key_means, keys_at, ListedAt, WholePattern, KeyIs};
 
-use info_block::name::{NameFound, find_name};
-use info_block::{BlockRead, InfoBlock, read};
-use util::bits::bits32;
-use util::cur::{Tally, greater};
+use info_block::name::find_name;
+use info_block::{InfoBlock, read};
+use util::bits::bits;
+use util::cur::{Tally, follow};
+use util::refusal::Refusal;
 use util::view::{byte, word16, word32};
 
 // An index of the texture names.
-#[derive(Clone, Copy)]
+#[derive(Clone, Copy, Debug, PartialEq, Eq)]
 pub struct TextureIdx(pub u8);
 
 // An index of the palette names.
-#[derive(Clone, Copy)]
+#[derive(Clone, Copy, Debug, PartialEq, Eq)]
 pub struct PaletteIdx(pub u8);
 
-#[derive(Clone, Copy)]
+#[derive(Clone, Copy, Debug, PartialEq, Eq)]
 pub struct PatternKeyframe {
     pub frame: u16,
     pub texture_idx: TextureIdx,
@@ -48,12 +49,6 @@ pub struct Pattern {
     pub samples: u64,
 }
 
-#[derive(Clone, Copy)]
-pub enum PatternRead {
-    Whole(Pattern),
-    Refused(u8),
-}
-
 // Key k of the keys at `place`.
 fn key_at(s: &[u8], place: usize, k: usize) -> PatternKeyframe
     requires { place + 4 * k + 4 ≤ length s.now }
@@ -67,46 +62,34 @@ fn key_at(s: &[u8], place: usize, k: usize) -> PatternKeyframe
     }
 }
 
-// The first word past those of three bytes whose highest byte is below `count`.
-fn word_past(count: usize) -> u32
-    ensures { result ≡ 65536 * min count 256 }
-{
-    if count < 256 {
-        65536 * (count as u32)
-    } else {
-        0x100_0000
-    }
-}
-
 // Whether the index that is the highest of a word's three bytes is below `count`. The word is compared whole: of keys that are read whole the
 // compiler tests eight at once, and with the index taken out of the word it reads single bytes.
 fn index_below(word: u32, count: usize) -> bool
     requires { word < 16777216 }
     ensures { result ≡ ltb (word / 65536) count }
 {
-    word < word_past(count)
+    // the first word past those whose index is below count; an index is a byte
+    word < 65536 * count.min(256) as u32
 }
 
 // Whether the texture and the palette of key k stand in their own lists. The texture is the highest of the key's three low bytes, the
-// palette of its three high ones.
+// palette of its three high ones. The counts are two numbers, as the reader of document 01 takes them: a struct of both is no plainer.
 fn key_inside(s: &[u8], place: usize, k: usize, textures: usize, palettes: usize) -> bool
     requires { place + 4 * k + 4 ≤ length s.now }
     ensures { result ≡ inside textures palettes (key_of (take 4 (drop (place + 4 * k) s.now)) ∷ []) }
 {
     let key = word32(s, place + 4 * k);
-    index_below(bits32(key, 0, 24), textures) & index_below(bits32(key, 8, 32), palettes)
+    index_below(bits(key, 0, 24), textures) & index_below(bits(key, 8, 32), palettes)
 }
 
 // Whether each key's texture and palette stand in their own lists. Every key is tested, so that no step waits for a branch.
-pub fn keys_inside(s: &[u8], place: usize, count: usize, textures: usize, palettes: usize) -> bool
-    requires { place + 4 * count ≤ length s.now }
-    ensures { result ≡ inside textures palettes (view 4 key_of count (drop place s.now)) }
+pub fn keys_inside(s: &[u8], keys: ItemList, textures: usize, palettes: usize) -> bool
+    requires { keys.place + 4 * keys.count ≤ length s.now }
+    ensures { result ≡ inside textures palettes (keys_at s.now keys) }
 {
     let mut all = true;
-    let mut i: usize = 0;
-    while i < count {
-        all = all & key_inside(s, place, i, textures, palettes);
-        i += 1;
+    for k in 0..keys.count {
+        all &= key_inside(s, keys.place, k, textures, palettes);
     }
     all
 }
@@ -123,52 +106,44 @@ pub fn read_track_keys(s: &[u8], datum: usize) -> ItemList
 }
 
 // The track whose datum stands at `datum`, after parts that reach as far as `reach`: how far it reaches, and how many keys it has.
-fn read_track(s: &[u8], datum: usize, textures: usize, palettes: usize, reach: usize) -> Tally
-    requires { datum + 8 ≤ length s.now }
-    ensures { result ≡ tally_of key_count (run (track textures palettes (take 8 (drop datum s.now))) s.now reach) }
-{
-    let keys = read_track_keys(s, datum);
-    let place = keys.place;
-    let count = keys.count;
-    let end = place + 4 * count;
-    if s.len() < end {
-        return Tally::Refused(2);
-    }
-    if keys_inside(s, place, count, textures, palettes) {
-        Tally::Whole(greater(reach, end), count as u64)
-    } else {
-        Tally::Refused(8)
-    }
-}
-
-// The tracks of the `count` datums at `datums`, one after the other: how far they reach, and how many keys they have.
-fn follow_tracks(
+fn read_track(
     s: &[u8],
-    datums: usize,
-    count: usize,
+    datum: usize,
     textures: usize,
     palettes: usize,
     reach: usize,
-) -> Tally
-    requires { (datums + 8 * count ≤ length s.now) × (count < 256) }
-    ensures { result ≡ tally_of (total key_count) (run (each (track textures palettes) (view 8 (λ bs. bs) count (drop datums s.now))) s.now reach) }
+) -> Result<Tally, Refusal>
+    requires { datum + 8 ≤ length s.now }
+    ensures { outcome tallied result ≡ tally_of key_count (run (track textures palettes (take 8 (drop datum s.now))) s.now reach) }
 {
-    let mut far = reach;
-    let mut samples = 0u64;
-    let mut i: usize = 0;
-    while i < count {
-        match read_track(s, datums + 8 * i, textures, palettes, far) {
-            Tally::Whole(m, keys) => {
-                far = m;
-                samples += keys;
-            }
-            Tally::Refused(n) => {
-                return Tally::Refused(n);
-            }
-        }
-        i += 1;
+    let keys = read_track_keys(s, datum);
+    let end = keys.place + 4 * keys.count;
+    if s.len() < end {
+        return Err(Refusal::TooShort);
     }
-    Tally::Whole(far, samples)
+    if !keys_inside(s, keys, textures, palettes) {
+        return Err(Refusal::KeyIndex);
+    }
+    Ok(Tally {
+        reach: reach.max(end),
+        samples: keys.count as u64,
+    })
+}
+
+// The tracks of a block's datums, one after the other: how far they reach, and how many keys they have.
+fn follow_tracks(
+    s: &[u8],
+    block: InfoBlock,
+    textures: usize,
+    palettes: usize,
+    reach: usize,
+) -> Result<Tally, Refusal>
+    requires { (block.datums + 8 * block.count ≤ length s.now) × (block.count < 256) }
+    ensures { outcome tallied result ≡ tally_of (total key_count) (run (each (track textures palettes) (view 8 (λ bs. bs) block.count (drop block.datums s.now))) s.now reach) }
+{
+    follow(block.count, reach, |i, far| {
+        read_track(s, block.datums + 8 * i, textures, palettes, far)
+    })
 }
 
 // The list of names whose count stands at c and whose offset at p.
@@ -183,12 +158,12 @@ fn read_names(s: &[u8], c: usize, p: usize) -> ItemList
 }
 
 // The entry that s starts with.
-pub fn read_pattern(s: &[u8]) -> PatternRead
-    ensures { PatternIs s.now result }
+pub fn read_pattern(s: &[u8]) -> Result<Pattern, Refusal>
+    ensures { IsRead (WholePattern s.now) (run pattern s.now 0) result }
 {
     let n = s.len();
     if n < 12 {
-        return PatternRead::Refused(2);
+        return Err(Refusal::TooShort);
     }
     let frames = word16(s, 4);
     let textures = read_names(s, 6, 8);
@@ -196,87 +171,64 @@ pub fn read_pattern(s: &[u8]) -> PatternRead
     let texture_end = textures.place + 16 * textures.count;
     let palette_end = palettes.place + 16 * palettes.count;
     if n < texture_end {
-        return PatternRead::Refused(2);
+        return Err(Refusal::TooShort);
     }
     if n < palette_end {
-        return PatternRead::Refused(2);
+        return Err(Refusal::TooShort);
     }
-    let block = match read(s, 12, 8) {
-        BlockRead::Whole(block) => block,
-        BlockRead::Refused(e) => {
-            return PatternRead::Refused(e);
-        }
-    };
-    let start = greater(greater(greater(12, texture_end), palette_end), block.end);
-    match follow_tracks(
-        s,
-        block.datums,
-        block.count,
-        textures.count,
-        palettes.count,
-        start,
-    ) {
-        Tally::Whole(reach, samples) => PatternRead::Whole(Pattern {
-            frames,
-            textures,
-            palettes,
-            block,
-            reach,
-            samples,
-        }),
-        Tally::Refused(e) => PatternRead::Refused(e),
-    }
+    let block = read(s, 12, 8)?;
+    // the header ends before the block does
+    let start = texture_end.max(palette_end).max(block.end);
+    let tracks = follow_tracks(s, block, textures.count, palettes.count, start)?;
+    Ok(Pattern {
+        frames,
+        textures,
+        palettes,
+        block,
+        reach: tracks.reach,
+        samples: tracks.samples,
+    })
 }
 
 // The index of the first key of a later frame, or how many keys there are if none is later.
-fn first_later(s: &[u8], place: usize, count: usize, frame: u16) -> usize
-    requires { place + 4 * count ≤ length s.now }
-    ensures { (result ≡ first_later (view 4 key_of count (drop place s.now)) frame) × (result ≤ count) }
+fn first_later(s: &[u8], keys: ItemList, frame: u16) -> usize
+    requires { keys.place + 4 * keys.count ≤ length s.now }
+    ensures { (result ≡ first_later (keys_at s.now keys) frame) × (result ≤ keys.count) }
 {
-    let mut i: usize = 0;
-    while i < count {
-        if frame < key_at(s, place, i).frame {
-            return i;
+    // a search by `find` took a fifth longer
+    for k in 0..keys.count {
+        if frame < key_at(s, keys.place, k).frame {
+            return k;
         }
-        i += 1;
     }
-    i
+    keys.count
 }
 
-// The key that holds at a frame, of the `count` keys at `place`: the one before the first of a later frame, which is key 0 if that is first.
-pub fn sample(s: &[u8], place: usize, count: usize, frame: u16) -> PatternKeyframe
-    requires { (place + 4 * count ≤ length s.now) × (1 ≤ count) }
-    ensures { (default : Key) → key_means result ≡ choice (view 4 key_of count (drop place s.now)) default frame }
+// The key that holds at a frame, of some keys: the one before the first of a later frame, which is key 0 if that is first.
+pub fn sample(s: &[u8], keys: ItemList, frame: u16) -> PatternKeyframe
+    requires { (keys.place + 4 * keys.count ≤ length s.now) × (1 ≤ keys.count) }
+    ensures { (default : Key) → key_means result ≡ choice (keys_at s.now keys) default frame }
 {
-    let later = first_later(s, place, count, frame);
-    if later == 0 {
-        return key_at(s, place, 0);
-    }
-    key_at(s, place, later - 1)
+    key_at(s, keys.place, first_later(s, keys, frame).saturating_sub(1))
 }
 
-// What a name chooses at a frame: the key that holds, nothing if no track has that name, and if its track has no keys it is empty.
-#[derive(Clone, Copy)]
-pub enum KeyFound {
-    At(PatternKeyframe),
-    Empty,
-    Nothing,
-}
-
-// .. in an entry that is whole: by the earliest track with this name.
-pub fn find_key(s: &[u8], a: Pattern, name: &[u8; 16], frame: u16) -> KeyFound
+// What a name chooses at a frame in an entry that is whole, by the earliest track with this name: the key that holds, if there is such a
+// track; it may have no keys.
+pub fn find_key(
+    s: &[u8],
+    a: Pattern,
+    name: &[u8; 16],
+    frame: u16,
+) -> Result<Option<PatternKeyframe>, Refusal>
     requires { WholePattern s.now a }
     ensures { (w : WholePattern s.now a) → KeyIs (keys_of name.now w.held) frame result }
 {
-    let block = a.block;
-    match find_name(s, block.names, block.count, name) {
-        NameFound::Nothing => KeyFound::Nothing,
-        NameFound::At(t) => {
-            let keys = read_track_keys(s, block.datums + 8 * t);
-            if keys.count == 0 {
-                return KeyFound::Empty;
-            }
-            KeyFound::At(sample(s, keys.place, keys.count, frame))
-        }
+    let Some(t) = find_name(s, a.block.names, a.block.count, name) else {
+        return Ok(None);
+    };
+    let keys = read_track_keys(s, a.block.datums + 8 * t);
+    if keys.count == 0 {
+        return Err(Refusal::EmptyList);
     }
+    Ok(Some(sample(s, keys, frame)))
 }

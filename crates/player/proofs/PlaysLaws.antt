@@ -14,7 +14,7 @@ use Rattle.calls.specs.Kinds.{section_kind}
 use Rattle.calls.specs.Calls.{check, answer}
 use Rattle.calls.proofs.KindsLaws.{kinds}
 use Rattle.player.specs.Player.{Mode, hold, loop, Player, Event, pick, tick, set, next, kept, step, play, shown_of}
-use Rattle.player.specs.declared.PlayerAnswer.{PlayerAnswer}
+use Rattle.std.specs.Prelude.{Ok, Err}
 use Rattle.player.specs.PlayerCode.{player_means, GoesOn}
 use Rattle.player.specs.Plays.{Refusals, Shown, tick_count, OneMode, frame_after, Frames, InTurn, Follows, nothing, event, Alike}
 use Rattle.player.proofs.StepLaws.{no_frames, one_more, at_last_lem, pick_refused, picks, tick_early, picture_early, tick_refused, ticks, picture_refused, pictures}
@@ -129,5 +129,5 @@ pub alike : Alike
 alike X means s x z es f = follow f
 
 pub goes_on : GoesOn
-goes_on s p e (PlayerAnswer.Now q) h = ap (kept (player_means p)) h
-goes_on s p e (PlayerAnswer.Refused n) h = ap (kept (player_means p)) h
+goes_on s p e (Ok q) h = ap (kept (player_means p)) h
+goes_on s p e (Err n) h = ap (kept (player_means p)) h

@@ -10,12 +10,11 @@ ghost use Rattle.player.specs.Player.{step, shown_of};
 ghost use Rattle.player.specs.Player as machine;
 ghost use Rattle.player.specs.PlayerCode.{mode_means, player_means, player_answer_means, picture_answer_means};
 
-use calls::{ChoiceAnswer, MatrixAnswer};
+use calls::Choice;
 use matrix::Mat4;
 use motion::check;
-use nitro::container::{Kind, StampRead};
-use nitro::entry::EntryCheck;
-use pattern::{PaletteIdx, TextureIdx};
+use nitro::container::Kind;
+use util::refusal::Refusal;
 
 // What a tick does at the last frame: it stays there, or returns to the first.
 #[derive(Clone, Copy)]
@@ -24,32 +23,19 @@ pub enum Mode {
     Loop,
 }
 
-// The entry that was picked.
-#[derive(Clone, Copy)]
-pub enum Picked {
-    Nothing,
-    Entry(usize),
-}
-
+// The entry that was picked, if one was, the frame, and the mode.
 #[derive(Clone, Copy)]
 pub struct Player {
-    pub picked: Picked,
+    pub picked: Option<usize>,
     pub frame: u16,
     pub mode: Mode,
 }
 
-// The player after an event. A refused event changes nothing: the caller goes on with the player that it has.
+// What a player shows: of an object or a material track a matrix, of a pattern track a choice.
 #[derive(Clone, Copy)]
-pub enum PlayerAnswer {
-    Now(Player),
-    Refused(u8),
-}
-
-#[derive(Clone, Copy)]
-pub enum PictureAnswer {
+pub enum Shown {
     Matrix(Mat4),
-    Choice(TextureIdx, PaletteIdx),
-    Refused(u8),
+    Choice(Choice),
 }
 
 // A player that has picked nothing.
@@ -57,27 +43,22 @@ pub fn new() -> Player
     ensures { player_means result ≡ machine.new }
 {
     Player {
-        picked: Picked::Nothing,
+        picked: None,
         frame: 0,
         mode: Mode::Hold,
     }
 }
 
-// An entry is picked, and its first frame.
-pub fn pick(s: &[u8], p: Player, entry: usize) -> PlayerAnswer
+// An entry is picked, and its first frame. A refused event changes nothing: the caller goes on with the player that it has.
+pub fn pick(s: &[u8], p: Player, entry: usize) -> Result<Player, Refusal>
     ensures { player_answer_means result ≡ step s.now (player_means p) (machine.pick entry) }
 {
-    match check(s, entry) {
-        EntryCheck::Refused(n) => PlayerAnswer::Refused(n),
-        EntryCheck::Whole(_) => {
-            let mode = p.mode;
-            PlayerAnswer::Now(Player {
-                picked: Picked::Entry(entry),
-                frame: 0,
-                mode: mode,
-            })
-        }
-    }
+    check(s, entry)?;
+    Ok(Player {
+        picked: Some(entry),
+        frame: 0,
+        ..p
+    })
 }
 
 // The frame that a tick goes to.
@@ -97,77 +78,42 @@ fn next(mode: Mode, frames: u16, frame: u16) -> u16
 }
 
 // One tick of the entry that was picked.
-pub fn tick(s: &[u8], p: Player) -> PlayerAnswer
+pub fn tick(s: &[u8], p: Player) -> Result<Player, Refusal>
     ensures { player_answer_means result ≡ step s.now (player_means p) machine.tick }
 {
-    let picked = p.picked;
-    match picked {
-        Picked::Nothing => PlayerAnswer::Refused(17),
-        Picked::Entry(entry) => match check(s, entry) {
-            EntryCheck::Refused(n) => PlayerAnswer::Refused(n),
-            EntryCheck::Whole(e) => {
-                let same = p.mode;
-                PlayerAnswer::Now(Player {
-                    picked: Picked::Entry(entry),
-                    frame: next(same, e.frames, p.frame),
-                    mode: same,
-                })
-            }
-        },
-    }
+    let Some(entry) = p.picked else {
+        return Err(Refusal::NothingPicked);
+    };
+    let e = check(s, entry)?;
+    Ok(Player {
+        frame: next(p.mode, e.frames, p.frame),
+        ..p
+    })
 }
 
 // The mode is set; this is never refused, and asks no section.
 pub fn set_mode(p: Player, mode: Mode) -> Player
     ensures { (s : List ℕ) → answered (player_means result) ≡ step s (player_means p) (machine.set (mode_means mode)) }
 {
-    let picked = p.picked;
-    Player {
-        picked: picked,
-        frame: p.frame,
-        mode: mode,
-    }
-}
-
-fn of_matrix(a: MatrixAnswer) -> PictureAnswer
-    ensures { picture_answer_means result ≡ and_then (matrix_answer_means a) (λ m. answered (machine.matrix m)) }
-{
-    match a {
-        MatrixAnswer::Refused(n) => PictureAnswer::Refused(n),
-        MatrixAnswer::Matrix(m) => PictureAnswer::Matrix(m),
-    }
-}
-
-fn of_choice(a: ChoiceAnswer) -> PictureAnswer
-    ensures { picture_answer_means result ≡ and_then (choice_answer_means a) (λ c. answered (machine.choice c)) }
-{
-    match a {
-        ChoiceAnswer::Refused(n) => PictureAnswer::Refused(n),
-        ChoiceAnswer::Chosen(texture, palette) => PictureAnswer::Choice(texture, palette),
-    }
+    Player { mode, ..p }
 }
 
 // Object or track `index` of an entry of a section of this kind, at a frame.
-fn shown_of(s: &[u8], kind: Kind, entry: usize, frame: u16, index: usize) -> PictureAnswer
+fn shown_of(s: &[u8], kind: Kind, entry: usize, frame: u16, index: usize) -> Result<Shown, Refusal>
     ensures { picture_answer_means result ≡ shown_of (kind_means kind) entry frame index s.now }
 {
-    match kind {
-        Kind::Jnt => of_matrix(jnt::matrix(s, entry, index, frame)),
-        Kind::Srt => of_matrix(srt::uv_matrix(s, entry, index, frame)),
-        Kind::Pat => of_choice(pat::choice(s, entry, index, frame)),
-    }
+    Ok(match kind {
+        Kind::Jnt => Shown::Matrix(jnt::matrix(s, entry, index, frame)?),
+        Kind::Srt => Shown::Matrix(srt::uv_matrix(s, entry, index, frame)?),
+        Kind::Pat => Shown::Choice(pat::choice(s, entry, index, frame)?),
+    })
 }
 
 // What the player shows of an object or a track.
-pub fn picture(s: &[u8], p: Player, index: usize) -> PictureAnswer
+pub fn picture(s: &[u8], p: Player, index: usize) -> Result<Shown, Refusal>
     ensures { picture_answer_means result ≡ machine.picture s.now (player_means p) index }
 {
-    let picked = p.picked;
-    match picked {
-        Picked::Nothing => PictureAnswer::Refused(17),
-        Picked::Entry(entry) => match motion::kind(s) {
-            StampRead::Refused(n) => PictureAnswer::Refused(n),
-            StampRead::Whole(kind) => shown_of(s, kind, entry, p.frame, index),
-        },
-    }
+    let entry = p.picked.ok_or(Refusal::NothingPicked)?;
+    let kind = motion::kind(s)?;
+    shown_of(s, kind, entry, p.frame, index)
 }

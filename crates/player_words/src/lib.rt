@@ -4,23 +4,25 @@
 ghost use Rattle.std.specs.Prelude.{cond, ◌≡◌, ◌≤◌, eqb, length};
 ghost use Rattle.std.proofs.Math.Option.{none, some};
 ghost use Rattle.util.specs.Reader.{answered};
+ghost use Rattle.calls.specs.AnswersCode.{found};
 ghost use Rattle.player.specs.Player.{pick, tick, set};
 ghost use Rattle.player.specs.Player as machine;
-ghost use Rattle.player.specs.PlayerCode.{mode_means, picked_means, player_means, player_answer_means, picture_answer_means};
+ghost use Rattle.player.specs.PlayerCode.{mode_means, player_means, player_answer_means, picture_answer_means};
 ghost use Rattle.words.specs.Words.{Writes};
 ghost use Rattle.player_words.specs.PlayerWords.{mode_of, player_of, mode_word, picture_words, picture_floats};
 ghost use Rattle.player_words.specs.PlayerWordsCode.{Sixteen, Sets};
 
 use matrix::put_floats;
-use player::{Mode, Picked, PictureAnswer, Player, PlayerAnswer};
+use player::{Mode, Player, Shown};
+use util::refusal::Refusal;
 
-fn picked_of(is_picked: u64, entry: u64) -> Picked
-    ensures { picked_means result ≡ cond (eqb is_picked 0) none (some entry) }
+fn picked_of(is_picked: u64, entry: u64) -> Option<usize>
+    ensures { found (λ i. i) result ≡ cond (eqb is_picked 0) none (some entry) }
 {
     if is_picked == 0 {
-        return Picked::Nothing;
+        return None;
     }
-    Picked::Entry(entry as usize)
+    Some(entry as usize)
 }
 
 pub fn mode_of(loops: u64) -> Mode
@@ -45,12 +47,12 @@ pub fn player_of(words: &[u64]) -> Player
 }
 
 // An entry was picked.
-pub fn put_pick(a: PlayerAnswer, entry: usize, out: &mut [u64; 4]) -> u32
+pub fn put_pick(a: Result<Player, Refusal>, entry: usize, out: &mut [u64; 4]) -> u32
     ensures { Sets (pick entry) (player_answer_means a) result out.old out.new }
 {
     match a {
-        PlayerAnswer::Refused(n) => n as u32,
-        PlayerAnswer::Now(_) => {
+        Err(e) => e.into(),
+        Ok(_) => {
             out[0] = 1;
             out[1] = entry as u64;
             out[2] = 0;
@@ -60,12 +62,12 @@ pub fn put_pick(a: PlayerAnswer, entry: usize, out: &mut [u64; 4]) -> u32
 }
 
 // The frame after a tick.
-pub fn put_tick(a: PlayerAnswer, out: &mut [u64; 4]) -> u32
+pub fn put_tick(a: Result<Player, Refusal>, out: &mut [u64; 4]) -> u32
     ensures { Sets tick (player_answer_means a) result out.old out.new × Sixteen (player_answer_means a) }
 {
     match a {
-        PlayerAnswer::Refused(n) => n as u32,
-        PlayerAnswer::Now(p) => {
+        Err(e) => e.into(),
+        Ok(p) => {
             out[2] = p.frame as u64;
             0
         }
@@ -91,20 +93,20 @@ pub fn put_mode(mode: Mode, out: &mut [u64]) -> u32
 }
 
 // A matrix, or a texture and a palette.
-pub fn put_picture(a: PictureAnswer, matrix: &mut [f64; 16], picture: &mut [u64; 3]) -> u32
+pub fn put_picture(a: Result<Shown, Refusal>, matrix: &mut [f64; 16], picture: &mut [u64; 3]) -> u32
     ensures { Writes picture_floats (picture_answer_means a) result matrix.old matrix.new × Writes picture_words (picture_answer_means a) result picture.old picture.new }
 {
     match a {
-        PictureAnswer::Refused(n) => n as u32,
-        PictureAnswer::Matrix(m) => {
+        Err(e) => e.into(),
+        Ok(Shown::Matrix(m)) => {
             put_floats(matrix, 0, m);
             picture[0] = 1;
             0
         }
-        PictureAnswer::Choice(texture, palette) => {
+        Ok(Shown::Choice(c)) => {
             picture[0] = 2;
-            picture[1] = texture.0 as u64;
-            picture[2] = palette.0 as u64;
+            picture[1] = c.texture.0 as u64;
+            picture[2] = c.palette.0 as u64;
             0
         }
     }

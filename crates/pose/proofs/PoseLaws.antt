@@ -25,7 +25,8 @@ use Rattle.trs.specs.TrsCode.{ObjectStands}
 use Rattle.trs.proofs.TrsLaws.{same_object}
 use Rattle.pose.specs.Pose.{pose_at, poses_from, pose_into, clip_into, frame_bound}
 use Rattle.pose.specs.PoseCode.{Poses, sixteen_at, Filmed}
-use Rattle.pose.specs.declared.Posing.{Posing}
+use Rattle.std.specs.Prelude.{Ok, Err}
+use Rattle.util.specs.declared.refusal.Refusal.TheVariants.{NoSuchIndex, SmallSlice}
 
 -- ---- poses and clips, as pieces
 
@@ -200,16 +201,16 @@ shot_all objects n first frames before after c h s =
 -- ---- the answer, and what the slice holds
 
 module _ (objects : List Object) (n first frames : ℕ) (out : List Float) (c : length objects ≡ n) where
-  pub past_frames : frame_bound < first + frames → Poses (clip_into objects first frames out) (Posing.Refused 9) out out
+  pub past_frames : frame_bound < first + frames → Poses (clip_into objects first frames out) (Err NoSuchIndex) out out
   unfolding clip_into
   past_frames h = rw (lt-leb (first + frames) frame_bound h) (refl, refl)
 
   module _ (h : first + frames ≤ frame_bound) where
-    pub too_small : length out < 16 * (n * frames) → Poses (clip_into objects first frames out) (Posing.Refused 11) out out
+    pub too_small : length out < 16 * (n * frames) → Poses (clip_into objects first frames out) (Err SmallSlice) out out
     unfolding clip_into
     too_small l = rw (le-leb (first + frames) frame_bound h, c, lt-leb (16 * (n * frames)) (length out) l) (refl, refl)
 
-    pub filmed : 16 * (n * frames) ≤ length out → (after : List Float) → Shot objects n first frames out n after → Poses (clip_into objects first frames out) (Posing.Objects n) out after
+    pub filmed : 16 * (n * frames) ≤ length out → (after : List Float) → Shot objects n first frames out n after → Poses (clip_into objects first frames out) (Ok n) out after
     unfolding clip_into
     filmed l after s =
         rw (le-leb (first + frames) frame_bound h, c, le-leb (16 * (n * frames)) (length out) l, ← shot_all objects n first frames out after c l s) (refl, refl)

@@ -1,18 +1,18 @@
 -- What the code of this crate answers, and where it writes. Assumes nothing.
-use Rattle.std.specs.Prelude.{ℕ, ◌+◌, ◌*◌, ◌<◌, List, ◌≡◌, Float, length, take, drop}
-use Rattle.util.specs.Reader.{Verdict, answered, denied}
+use Rattle.std.specs.Prelude.{ℕ, ◌+◌, ◌*◌, ◌<◌, List, ◌≡◌, Float, length, take, drop, Result}
+use Rattle.util.specs.declared.refusal.Refusal.{Refusal}
+use Rattle.util.specs.Reader.{Verdict}
+use Rattle.util.specs.ReaderCode.{verdict}
 use Rattle.matrix.specs.Matrix.{floats_of}
 use Rattle.animation.specs.Animation.{Object, matrix_at}
-use Rattle.pose.specs.declared.Posing.{Posing}
 use Rattle.pose.specs.Pose.{Posed, posed_slice}
 
 -- the answer, with the slice as it was left
-abbrev pub posing_means : Posing → List Float → Verdict Posed
-posing_means (Posing.Objects n) slice = answered (record { objects = n; slice = slice })
-posing_means (Posing.Refused n) slice = denied n
+abbrev pub posing_means : Result ℕ Refusal → List Float → Verdict Posed
+posing_means x slice = verdict (λ n. record { objects = n; slice = slice }) x
 
 -- a call with this verdict, by what it answers and by the slice before and after it
-abbrev pub Poses : Verdict Posed → Posing → List Float → List Float → Type 0
+abbrev pub Poses : Verdict Posed → Result ℕ Refusal → List Float → List Float → Type 0
 Poses v r before after = (posing_means r after ≡ v) × (after ≡ posed_slice before v)
 
 -- the sixteen floats of place k, where every place has as many

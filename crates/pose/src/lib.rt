@@ -9,18 +9,13 @@ ghost use Rattle.pose.specs.PoseCode.{Poses, Filmed};
 use animation::{Animation, TRSCurves, Tables};
 use matrix::put_floats;
 use trs::{object_at, sample_at};
+use util::refusal::Refusal;
 
 // Frames are words of sixteen bits.
 const FRAME_BOUND: usize = 65536;
 
-// How many objects there are whose matrices were written.
-#[derive(Clone, Copy)]
-pub enum Posing {
-    Objects(usize),
-    Refused(u8),
-}
-
 // The matrices of object o, of n, at the frames from `first` on: in each pose at the object's own place.
+#[tactic(auto, using(crate::proofs::PoseLaws::place_inside))]
 fn film_object(
     s: &[u8],
     t: Tables,
@@ -42,21 +37,27 @@ fn film_object(
 }
 
 // The poses of a whole entry at `frames` frames from `first` on, one after the other, from the start of `out`. Object by object, so that an
-// object's curves are found once.
-pub fn film(s: &[u8], a: Animation, first: u16, frames: usize, out: &mut [f64]) -> Posing
+// object's curves are found once. Answers how many objects there are.
+pub fn film(
+    s: &[u8],
+    a: Animation,
+    first: u16,
+    frames: usize,
+    out: &mut [f64],
+) -> Result<usize, Refusal>
     requires { WholeAnimation s.now a }
     ensures { (w : WholeAnimation s.now a) → Poses (clip_into w.held.objects first frames out.old) result out.old out.new }
 {
     if FRAME_BOUND - (first as usize) < frames {
-        return Posing::Refused(9);
+        return Err(Refusal::NoSuchIndex);
     }
     let n = a.objects;
     if out.len() < 16 * (n * frames) {
-        return Posing::Refused(11);
+        return Err(Refusal::SmallSlice);
     }
     let tables = a.tables;
     for o in 0..n {
         film_object(s, tables, object_at(s, a, o), o, n, first, frames, out);
     }
-    Posing::Objects(n)
+    Ok(n)
 }

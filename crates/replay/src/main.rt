@@ -9,6 +9,8 @@
 // in the place of a name, four bytes each.
 #![tactic(auto)]
 
+ghost use Rattle.std.specs.Prelude.{◌≤◌, length};
+
 mod print;
 mod stored;
 
@@ -18,37 +20,27 @@ use std::io::{Read, Write};
 use stored::run;
 use util::view::{word16, word32};
 
-// The call at `at`; one that the list does not hold is passed over.
-fn run_call<W: Write>(to: &mut W, list: &[u8], at: usize) -> io::Result<()> {
-    if list.len() < at {
-        return Ok(());
+// A call on the section of the list that it names; one that the list does not hold is passed over.
+fn run_call<W: Write>(to: &mut W, list: &[u8], call: &[u8]) -> io::Result<()>
+    requires { 33 ≤ length call.now }
+{
+    let start = word32(call, 25) as usize;
+    let end = start + word32(call, 29) as usize;
+    match list.get(start..end) {
+        Some(section) => run(to, section, call),
+        None => Ok(()),
     }
-    if list.len() - at < 33 {
-        return Ok(());
-    }
-    let start = word32(list, at + 25) as usize;
-    let length = word32(list, at + 29) as usize;
-    if list.len() < start {
-        return Ok(());
-    }
-    if list.len() - start < length {
-        return Ok(());
-    }
-    run(to, &list[start..start + length], &list[at..])
-}
-
-fn run_calls<W: Write>(to: &mut W, list: &[u8], calls: u16) -> io::Result<()> {
-    for i in 0..calls {
-        run_call(to, list, 2 + 33 * (i as usize))?;
-    }
-    Ok(())
 }
 
 fn run_list<W: Write>(to: &mut W, list: &[u8]) -> io::Result<()> {
     if list.len() < 2 {
         return Ok(());
     }
-    run_calls(to, list, word16(list, 0))
+    let calls = word16(list, 0) as usize;
+    for call in list[2..].chunks_exact(33).take(calls) {
+        run_call(to, list, call)?;
+    }
+    Ok(())
 }
 
 // What `from` holds, read into `list` and run.

@@ -8,8 +8,8 @@ ghost use Rattle.rotation.specs.RotationCode.{digit, value_at};
 ghost use Rattle.rotation.specs.Rotation.{turned, pivot_mat, high, joined, basis_mat};
 
 use matrix::{Col3, Mat3};
-use util::bits::bit16;
-use util::fixed::Fix1_0_12;
+use util::bits::bit;
+use util::fixed::{Fix1_0_12, Format};
 
 // What goes where, by select: an octal digit for each place, column by column. 0 is +0, and 1 to 5 are o, a, b, c and d.
 const ROWS: [u32; 9] = [
@@ -48,7 +48,7 @@ fn turn(neg: u16, i: u32, x: f64) -> f64
     requires { i < 16 }
     ensures { result ≡ turned neg i x }
 {
-    if bit16(neg, i) { -x } else { x }
+    if bit(neg as u32, i) { -x } else { x }
 }
 
 pub fn pivot_mat(select: u16, neg: u16, a: f64, b: f64) -> Mat3
@@ -90,7 +90,7 @@ pub fn pivot_mat(select: u16, neg: u16, a: f64, b: f64) -> Mat3
 fn high_bits(x: u16) -> f64
     ensures { result ≡ high x }
 {
-    Fix1_0_12::read(x >> 3)
+    Fix1_0_12::read((x >> 3) as u32)
 }
 
 // The low three bits of in4, in0, in1, in2 and in3, joined; of those fifteen the low thirteen.
@@ -121,7 +121,7 @@ pub fn basis_mat(in0: u16, in1: u16, in2: u16, in3: u16, in4: u16) -> Mat3
     let two = Col3 {
         x: high_bits(in3),
         y: high_bits(in4),
-        z: Fix1_0_12::read(low_bits(in0, in1, in2, in3, in4)),
+        z: Fix1_0_12::read(low_bits(in0, in1, in2, in3, in4) as u32),
     };
     Mat3 {
         c0: one,

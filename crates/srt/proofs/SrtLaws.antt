@@ -5,7 +5,9 @@ use mathlib.Core.Path.{◌≡◌, refl, sym, ap, ◌∙◌}
 use native.Mathlib.Omega.{arith}
 use borrow.Author.Tests.{lt-ltb, le-ltb}
 use lib.Ieee.{Float}
-use lib.ListN.{length, drop, get_or, length-drop}
+use lib.ListN.{length, drop, get_or}
+use Rattle.std.specs.Prelude.{Ok, Err}
+use Rattle.util.specs.declared.refusal.Refusal.{Refusal}
 use Rattle.util.specs.View.{view}
 use Rattle.util.specs.Reader.{accepted, run, Verdict, answered, denied, told}
 use Rattle.util.proofs.Each.{each_read}
@@ -14,7 +16,6 @@ use Rattle.curve.specs.Curve.{Curve, none, recorded}
 use Rattle.curve.specs.CurveCode.{scalar_curve}
 use Rattle.info_block.specs.Name.{Name, name_among}
 use Rattle.material_animation.specs.declared.MaterialAnimation.{MaterialAnimation}
-use Rattle.material_animation.specs.declared.ChannelRead.{ChannelRead}
 use Rattle.material_animation.specs.MaterialAnimation.{channel, channel_numbers}
 use Rattle.material_animation.specs.MaterialAnimationCode.{track_at, ChannelReads, WholeMaterial}
 use Rattle.material_animation.proofs.MaterialLaws.{track_inside, track_count_lem, track_of_lem}
@@ -24,7 +25,6 @@ use Rattle.nitro.specs.EntryCode.{Opened}
 use Rattle.srt.specs.declared.TrackAt.{TrackAt}
 use Rattle.calls.specs.Calls.{MaterialQuery, channel_curve, of_material, material_name, ask_material, ask, on, answer}
 use Rattle.srt.specs.SrtCode.{TrackStands}
-use Rattle.nitro.proofs.EntryLaws.{names_end}
 use Rattle.calls.proofs.CallsLaws.{asked}
 
 -- ---- an entry that is opened
@@ -34,9 +34,6 @@ module _ (s : List ℕ) (i : ℕ) (e : EntryAt) (a : MaterialAnimation) (w : Ope
   tracks = w.whole.held.tracks
 
   -- the names of the tracks
-  pub track_names_end : e.offset + (a.block.names + 16 * a.block.count) ≤ length s
-  track_names_end = names_end s e.offset 8 40 a.block w.stands.holds w.whole.block.holds
-
   pub name_of : (t : ℕ) (v : Verdict Name) → v ≡ name_among (view 16 (λ bs. bs) a.block.count (drop a.block.names (drop e.offset s))) t
       → v ≡ told (answer (on srt i (material_name t)) s)
   unfolding ask
@@ -52,9 +49,6 @@ module _ (s : List ℕ) (i : ℕ) (e : EntryAt) (a : MaterialAnimation) (w : Ope
   module _ (t : ℕ) (h : t < a.block.count) where
     datum_fits : a.block.datums + 40 * t + 40 ≤ length (drop e.offset s)
     datum_fits = track_inside (drop e.offset s) a w.whole t h
-
-    pub datum_end : a.block.datums + 40 * t ≤ length s
-    datum_end = omega (arith, datum_fits, length-drop e.offset s)
 
     pub track_stands : TrackStands s i t (record { offset = e.offset; datum = a.block.datums + 40 * t })
     unfolding ask
@@ -97,11 +91,11 @@ module _ (s : List ℕ) (i t : ℕ) (p : TrackAt) (w : TrackStands s i t p) (c :
         (r.0, rw (number_at c h) at r.1)
 
     -- a whole entry's channel is not refused
-    pub channel_there : (n : ℕ) → ChannelReads here p.datum c 0 (ChannelRead.Refused n) → ⊥
+    pub channel_there : (n : Refusal) → ChannelReads here p.datum c 0 (Err n) → ⊥
     channel_there n x = let e = x.reads in let f = channel_run.1 in let z : ◌≡◌ {A = ℕ} 0 1 = cc in omega arith
 
     -- the channel that the code reads is the entry's
-    pub channel_recorded : (curve : ScalarCurve) (far : ℕ) → ChannelReads here p.datum c 0 (ChannelRead.Whole curve far)
+    pub channel_recorded : (curve : ScalarCurve) (far : ℕ) → ChannelReads here p.datum c 0 (Ok (curve, far))
         → answered (recorded p.offset (scalar_curve here curve)) ≡ told (answer (on srt i (of_material t (channel_curve c))) s)
     unfolding ask_material
     channel_recorded curve far x =

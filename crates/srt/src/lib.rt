@@ -3,19 +3,20 @@
 
 ghost use Rattle.std.specs.Prelude.{◌≡◌};
 ghost use Rattle.util.specs.Reader.{told};
-ghost use Rattle.info_block.specs.NameCode.{name_answer_means};
+ghost use Rattle.util.specs.ReaderCode.{verdict};
+ghost use Rattle.info_block.specs.NameCode.{name_means};
 ghost use Rattle.trs.specs.TrsCode.{curve_means};
 ghost use Rattle.nitro.specs.Container.{srt};
 ghost use Rattle.calls.specs.Calls.{on, of_material, material_name, uv_matrix, channel_curve, answer};
 ghost use Rattle.calls.specs.AnswersCode.{matrix_answer_means};
 ghost use Rattle.srt.specs.SrtCode.{TrackFinds};
 
-use calls::MatrixAnswer;
-use curve::record_scalar;
-use info_block::name::{NameAnswer, name_in};
-use material_animation::{ChannelRead, eval_uv_mat, read_channel};
-use nitro::entry::{MaterialOpen, open_material};
-use trs::CurveRecord;
+use curve::{CurveRecord, record};
+use info_block::name::{Name, name_in};
+use material_animation::{MaterialAnimation, eval_uv_mat, read_channel};
+use matrix::Mat4;
+use nitro::entry::open_whole;
+use util::refusal::Refusal;
 
 // Where a track's datum stands: the offset of its entry, and its place in the entry.
 #[derive(Clone, Copy)]
@@ -24,73 +25,50 @@ struct TrackAt {
     datum: usize,
 }
 
-#[derive(Clone, Copy)]
-enum TrackFound {
-    At(TrackAt),
-    Refused(u8),
-}
-
 // The name of a track.
-pub fn track_name(s: &[u8], entry: usize, track: usize) -> NameAnswer
-    ensures { name_answer_means result ≡ told (answer (on srt entry (material_name track)) s.now) }
+pub fn track_name(s: &[u8], entry: usize, track: usize) -> Result<Name, Refusal>
+    ensures { verdict name_means result ≡ told (answer (on srt entry (material_name track)) s.now) }
 {
-    match open_material(s, entry) {
-        MaterialOpen::Refused(n) => NameAnswer::Refused(n),
-        MaterialOpen::At(e, a) => {
-            let block = a.block;
-            name_in(s, e.offset as usize, block, track)
-        }
-    }
+    let (e, a) = open_whole::<MaterialAnimation>(s, entry)?;
+    name_in(s, e.offset as usize, a.block, track)
 }
 
 // Where a track stands.
-fn find_track(s: &[u8], entry: usize, track: usize) -> TrackFound
+fn find_track(s: &[u8], entry: usize, track: usize) -> Result<TrackAt, Refusal>
     ensures { TrackFinds s.now entry track result }
 {
-    match open_material(s, entry) {
-        MaterialOpen::Refused(n) => TrackFound::Refused(n),
-        MaterialOpen::At(e, a) => {
-            if a.block.count <= track {
-                return TrackFound::Refused(9);
-            }
-            TrackFound::At(TrackAt {
-                offset: e.offset as usize,
-                datum: a.block.datums + 40 * track,
-            })
-        }
+    let (e, known) = open_whole::<MaterialAnimation>(s, entry)?;
+    if known.block.count <= track {
+        return Err(Refusal::NoSuchIndex);
     }
+    Ok(TrackAt {
+        offset: e.offset as usize,
+        datum: known.block.datums + 40 * track,
+    })
 }
 
 // The matrix of a track at a frame.
-pub fn uv_matrix(s: &[u8], entry: usize, track: usize, frame: u16) -> MatrixAnswer
+pub fn uv_matrix(s: &[u8], entry: usize, track: usize, frame: u16) -> Result<Mat4, Refusal>
     ensures { matrix_answer_means result ≡ told (answer (on srt entry (of_material track (uv_matrix frame))) s.now) }
 {
-    match find_track(s, entry, track) {
-        TrackFound::Refused(n) => MatrixAnswer::Refused(n),
-        TrackFound::At(t) => {
-            let off = t.offset;
-            MatrixAnswer::Matrix(eval_uv_mat(&s[off..], t.datum, frame))
-        }
-    }
+    let t = find_track(s, entry, track)?;
+    Ok(eval_uv_mat(&s[t.offset..], t.datum, frame))
 }
 
 // The record of a channel's curve.
-pub fn channel_curve(s: &[u8], entry: usize, track: usize, channel: usize) -> CurveRecord
+pub fn channel_curve(
+    s: &[u8],
+    entry: usize,
+    track: usize,
+    channel: usize,
+) -> Result<CurveRecord<f64>, Refusal>
     ensures { curve_means result ≡ told (answer (on srt entry (of_material track (channel_curve channel))) s.now) }
 {
-    match find_track(s, entry, track) {
-        TrackFound::Refused(n) => CurveRecord::Refused(n),
-        TrackFound::At(t) => {
-            if 5 <= channel {
-                return CurveRecord::Refused(9);
-            }
-            let off = t.offset;
-            match read_channel(&s[off..], t.datum, channel, 0) {
-                ChannelRead::Refused(n) => CurveRecord::Refused(n),
-                ChannelRead::Whole(curve, _) => {
-                    CurveRecord::Curve(record_scalar(&s[off..], curve, off))
-                }
-            }
-        }
+    let t = find_track(s, entry, track)?;
+    if 5 <= channel {
+        return Err(Refusal::NoSuchIndex);
     }
+    let here = &s[t.offset..];
+    let (curve, _) = read_channel(here, t.datum, channel, 0)?;
+    Ok(record::<f64>(here, curve, t.offset))
 }

@@ -1,2 +1,4 @@
 pub mod DigitsLaws
+pub mod LengthsLaws
+pub mod PrintsLaws
 pub mod WritesLaws

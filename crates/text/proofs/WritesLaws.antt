@@ -1,75 +1,63 @@
 -- Text written piece by piece. Assumes nothing.
-use Prim.Native.Nat.{ℕ, zero, suc, ◌+◌, ◌-◌, ◌*◌, ◌/◌, ◌%◌, ◌≤◌, ◌<◌}
+use Prim.Native.Nat.{ℕ, zero, suc, ◌+◌, ◌-◌, ◌/◌, ◌≤◌, ◌<◌}
 use mathlib.Core.List.{List, [], ◌∷◌, ◌++◌}
-use mathlib.Core.Path.{◌≡◌, refl, sym, ap, ◌∙◌}
-use native.Mathlib.Nat.{add-zero}
-use native.Mathlib.Numerals.{add-one, sub-one}
+use mathlib.Core.Path.{◌≡◌, refl, sym, ap}
+use native.Mathlib.Nat.{add-zero, add_assoc, sub-zero}
+use native.Mathlib.Numerals.{sub-one}
 use native.Mathlib.Omega.{arith}
-use borrow.Author.Tests.{lt-ltb, le-ltb}
-use lib.ListN.{length, take, drop, get_or, length-append, length-drop}
-use lib.Seq.{sets, take-suc, get_or-drop}
-use Rattle.util.proofs.WritesLaws.{sets_after}
-use Rattle.text.specs.Text.{digit, digits, places, hex_digit, hex}
-use Rattle.text.specs.Writes.{Wrote}
+use lib.ListN.{length, take, length-append}
+use lib.Seq.{take_all}
+use Rattle.std.proofs.lemmas.List.Edits.{sets}
+use Rattle.std.proofs.lemmas.List.{length-take}
+use Rattle.util.proofs.WritesLaws.{sets-append}
+use Rattle.text.specs.declared.Text.{Text}
+use Rattle.text.specs.Text.{digit, digits}
+use Rattle.text.specs.Writes.{room, kept, pushed}
 
--- two texts, the second where the first ended
-pub both : {l m r : List ℕ} {at mid end p q : ℕ} {x y : List ℕ} → Wrote l m at mid p x → Wrote m r mid end q y → Wrote l r at end (p + q) (x ++ y)
-both {l} {m} {r} {at} {mid} {end} {p} {q} {x} {y} v w =
-    record {
-      bytes = w.bytes ∙ (ap (λ (k : List ℕ). sets k mid y) v.bytes ∙ sets_after l at mid x y (sym v.next));
-      next = let e = length-append x y in let f = v.next in let g = w.next in omega arith;
-      near = let f = v.near in let g = w.near in omega arith;
-    }
+take_two : (n : ℕ) (x y : List ℕ) → take n (x ++ y) ≡ take n x ++ take (n - length x) y
+take_two zero x y = let e : 0 - length x ≡ 0 = omega arith in rw e refl
+take_two (suc n) [] y = sym (ap (λ (k : ℕ). take k y) (sub-zero (suc n)))
+take_two (suc n) (a ∷ x) y = let e : suc n - suc (length x) ≡ n - length x = omega arith in rw (e, take_two n x y) refl
 
-pub nothing : {l : List ℕ} {at : ℕ} → Wrote l l at at 0 []
-nothing {at} = record { bytes = refl; next = sym (add-zero at); near = omega arith }
+take_none : (n : ℕ) → take {A = ℕ} n [] ≡ []
+take_none zero = refl
+take_none (suc n) = refl
 
--- the same text, and a bound that is no lower
-pub same : {l r : List ℕ} {at end p q : ℕ} {x y : List ℕ} → x ≡ y → p ≤ q → Wrote l r at end p x → Wrote l r at end q y
-same {l} {r} {at} {end} {p} {q} e h w = let n = w.near in record { bytes = w.bytes ∙ ap (sets l at) e; next = w.next ∙ ap (λ (t : List ℕ). at + length t) e; near = omega arith }
+pub pushed_none : (t : Text) → pushed t [] ≡ t
+unfolding pushed
+pushed_none t = rw (take_none (room - t.len), add-zero t.len) refl
 
--- ---- one item more
+pub no_room : (t : Text) (bytes : List ℕ) → room ≤ t.len → pushed t bytes ≡ t
+unfolding pushed
+no_room t bytes h = let e : room - t.len ≡ 0 = omega arith in rw (e, add-zero t.len) refl
 
-hex-append : (x y : List ℕ) → hex (x ++ y) ≡ hex x ++ hex y
-unfolding hex
-hex-append [] y = refl
-hex-append (b ∷ x) y = rw (hex-append x y) refl
+-- two pieces are one
+pub pushed_on : (t : Text) (x y : List ℕ) → pushed (pushed t x) y ≡ pushed t (x ++ y)
+unfolding pushed
+pushed_on t x y =
+    let a = kept t x in
+    let b = take (room - t.len - length x) y in
+    let n = length-take (room - t.len) x in
+    let e : room - (t.len + length a) ≡ room - t.len - length x = omega arith in
+    rw (e, take_two (room - t.len) x y, sets-append t.out.now t.len a b, length-append a b, add_assoc t.len (length a) (length b)) refl
 
-pub hex_more : {l m r : List ℕ} {at mid end : ℕ} (s : List ℕ) (p i : ℕ) → p + i < length s
-    → Wrote l m at mid (2 * i) (hex (take i (drop p s))) → Wrote m r mid end 2 (hex (get_or s (p + i) 0 ∷ [])) → Wrote l r at end (2 * (i + 1)) (hex (take (i + 1) (drop p s)))
-hex_more s p i h v w =
-    let l : i < length (drop p s) = simp length-drop (omega arith) in
-    let e : take (i + 1) (drop p s) ≡ take i (drop p s) ++ (get_or s (p + i) 0 ∷ []) = rw (add-one, take-suc (drop p s) i 0 l, get_or-drop) refl in
-    same (sym (ap hex e ∙ hex-append (take i (drop p s)) (get_or s (p + i) 0 ∷ []))) (omega arith) (both v w)
-
-pub hex_pair : (b high low : ℕ) → high ≡ hex_digit (b / 16) → low ≡ hex_digit (b % 16) → high ∷ low ∷ [] ≡ hex (b ∷ [])
-unfolding hex
-hex_pair b high low e f = rw (e, f) refl
+-- text from the array's start on, for which there is room
+pub all_of_it : (t u : Text) (bytes : List ℕ) → t.len ≡ 0 → length bytes ≤ room → u ≡ pushed t bytes
+    → (u.len ≡ length bytes) × (u.out.now ≡ sets t.out.now 0 bytes) × (u.out.ghost_name ≡ t.out.ghost_name)
+unfolding pushed
+all_of_it t u bytes z h e =
+    let k : take room bytes ≡ bytes = take_all room bytes h in
+    let r : room - t.len ≡ room = omega arith in
+    rw (e, r, k, z) (omega arith, refl, refl)
 
 -- ---- a number's digits, the last one last
 
-pub no_digits : {l : List ℕ} {at : ℕ} (width n : ℕ) → width ≡ 0 → Wrote l l at at width (digits width n)
+pub no_digits : (width n : ℕ) → width ≤ 0 → digits width n ≡ []
 unfolding digits
-no_digits zero n e = nothing
-no_digits (suc width) n e = absurd (omega arith)
+no_digits zero n h = refl
+no_digits (suc width) n h = absurd (omega arith)
 
-pub more_digits : {l m r : List ℕ} {at mid end : ℕ} (width n : ℕ) → (width ≡ 0 → ⊥)
-    → Wrote l m at mid (width - 1) (digits (width - 1) (n / 10)) → Wrote m r mid end 1 (digit n ∷ []) → Wrote l r at end width (digits width n)
+pub more_digits : (width n : ℕ) → 0 < width → digits width n ≡ digits (width - 1) (n / 10) ++ (digit n ∷ [])
 unfolding digits
-more_digits zero n f v w = absurd (f refl)
-more_digits (suc width) n f v w = same refl (omega arith) (both (rw (sub-one (suc width)) at v) w)
-
--- ---- how many there are, when i are counted and n is what stands in front of them
-
-module _ (most i n : ℕ) where
-  pub no_place : most ≤ i → places (most - i) n ≡ 0
-  unfolding places
-  no_place h = let e : most - i ≡ 0 = omega arith in rw e refl
-
-  pub last_place : i < most → n < 10 → places (most - i) n ≡ 1
-  unfolding places
-  last_place h g = let e : most - i ≡ suc (most - (i + 1)) = omega arith in rw (e, lt-ltb n 10 g) refl
-
-  pub more_places : i < most → 10 ≤ n → places (most - i) n ≡ suc (places (most - (i + 1)) (n / 10))
-  unfolding places
-  more_places h g = let e : most - i ≡ suc (most - (i + 1)) = omega arith in rw (e, le-ltb n 10 g) refl
+more_digits zero n h = absurd (omega arith)
+more_digits (suc width) n h = rw (sub-one (suc width)) refl

@@ -7,12 +7,12 @@ use native.Mathlib.Omega.{arith}
 use borrow.Author.Tests.{lt-ltb, le-ltb}
 use lib.ListN.{length, take, drop, get_or}
 use Rattle.util.specs.Bits.{bits}
+use Rattle.util.specs.Refusals.{number_of}
 use Rattle.util.specs.Fixed.{fix1_3_12, fixed}
 use Rattle.util.specs.View.{little, word_at, view}
-use Rattle.util.specs.declared.cur.Reach.{Reach}
-use Rattle.util.specs.declared.cur.Reach.TheVariants.{Whole, Refused}
+use Rattle.std.specs.Prelude.{Result, Ok, Err, IsOk}
+use Rattle.util.specs.declared.refusal.Refusal.{Refusal}
 use Rattle.util.specs.Reader.{Reader, accepted, run, Verdict, denied}
-use Rattle.util.specs.ReaderCode.{reached}
 use Rattle.util.proofs.All.{each_at}
 use Rattle.util.proofs.Each.{each_read}
 use Rattle.util.proofs.ReadsLaws.{not_both}
@@ -35,7 +35,6 @@ use Rattle.animation.specs.declared.TRSCurves.{TRSCurves}
 use Rattle.animation.specs.declared.ObjectRead.{ObjectRead}
 use Rattle.animation.specs.Animation.{Object, still_object, on_axis, object, pivot_of, basis_of}
 use Rattle.animation.specs.AnimationCode.{tables_at, object_curves, ObjectReads, WholeAnimation, matrix_for, reference_end, references, InsideReferences}
-use Rattle.trs.specs.declared.AxisCurve.{AxisCurve}
 use Rattle.trs.specs.TrsCode.{ObjectStands, AxisIs}
 
 -- the object at an offset of the entry s
@@ -55,34 +54,37 @@ object_whole s a w o d h =
 pub same_object : (s : List ℕ) (a : Known) (w : WholeAnimation s a) (o : ℕ) (d : Object) → o < a.objects → (c : TRSCurves) → ObjectStands s o c → object_curves (tables_at s) s c ≡ get_or w.held.objects o d
 same_object s a w o d h c x = let y = object_whole s a w o d h in let e = sym x.reads ∙ y.1 in cc
 
--- what reading an object found, in a whole entry
-module _ (s : List ℕ) (a : Known) (w : WholeAnimation s a) (o : ℕ) (h : o < a.objects) (p : ℕ) (e : p ≡ word_at 2 s (20 + 2 * o)) (r : ObjectRead) (q : ObjectReads (object a.tables.pivot a.tables.basis p) a.tables s 0 r) where
-  here : ObjectReads (at s (word_at 2 s (20 + 2 * o))) (tables_at s) s 0 r
-  here = subst (λ (x : ℕ). ObjectReads (at s x) (tables_at s) s 0 r) e (subst (λ (t : Tables). ObjectReads (object t.pivot t.basis p) t s 0 r) w.tables q)
+-- what reading an object found, in a whole entry: it is no refusal
+module _ (s : List ℕ) (a : Known) (w : WholeAnimation s a) (o : ℕ) (h : o < a.objects) (p : ℕ) (e : p ≡ word_at 2 s (20 + 2 * o)) where
+  abbrev found : Result ObjectRead Refusal → Type 0
+  found x = ObjectReads (object a.tables.pivot a.tables.basis p) a.tables s 0 x
 
-  pub object_read : ObjectStands s o r.curves
-  object_read = go r.reach here.reads
-    where
-      go : (x : Reach) → run (at s (word_at 2 s (20 + 2 * o))) s 0 ≡ reached x (object_curves (tables_at s) s r.curves) → ObjectStands s o r.curves
-      go (Whole m) e = record { reach = m; reads = e; inside = here.holds.inside }
-      go (Refused n) e = absurd (not_both (object_whole s a w o still_object h).1 e)
+  here : (x : Result ObjectRead Refusal) → found x → ObjectReads (at s (word_at 2 s (20 + 2 * o))) (tables_at s) s 0 x
+  here x q = subst (λ (y : ℕ). ObjectReads (at s y) (tables_at s) s 0 x) e (subst (λ (t : Tables). ObjectReads (object t.pivot t.basis p) t s 0 x) w.tables q)
+
+  pub object_is_read : (x : Result ObjectRead Refusal) → found x → IsOk x
+  object_is_read (Ok r) q = refl
+  object_is_read (Err n) q = absurd (not_both (object_whole s a w o still_object h).1 (here (Err n) q).reads)
+
+  pub object_read : (r : ObjectRead) → found (Ok r) → ObjectStands s o r.curves
+  object_read r q = let x = here (Ok r) q in record { reach = r.reach; reads = x.reads; inside = x.holds.inside }
 
 -- ---- one of three axes
 
 module _ (a : AxisCurves) (axis : ℕ) where
   -- what holds of the three curves holds of this one
-  pub axis_holds : (P : ScalarCurve → Type 0) → P a.x → P a.y → P a.z → (c : ScalarCurve) → AxisIs a axis (AxisCurve.Of c) → P c
-  axis_holds P x y z c h = subst P (sym h.1) (each_at P (a.x ∷ a.y ∷ a.z ∷ []) ScalarCurve.None (x, (y, (z, tt))) axis h.0)
+  pub axis_holds : (P : ScalarCurve → Type 0) → P a.x × P a.y × P a.z → (c : ScalarCurve) → AxisIs a axis (Ok c) → P c
+  axis_holds P h c i = subst P (sym i.1) (each_at P (a.x ∷ a.y ∷ a.z ∷ []) ScalarCurve.None (h.0, (h.1, (h.2, tt))) axis i.0)
 
   module _ {A B : Type 0} (curve : ScalarCurve → Curve A) (f : Curve A → Verdict B) where
     abbrev asked : Verdict B
     asked = on_axis (record { x = curve a.x; y = curve a.y; z = curve a.z }) axis f
 
-    pub on_axis_lem : (c : ScalarCurve) → AxisIs a axis (AxisCurve.Of c) → f (curve c) ≡ asked
+    pub on_axis_lem : (c : ScalarCurve) → AxisIs a axis (Ok c) → f (curve c) ≡ asked
     on_axis_lem c h = rw (lt-ltb axis 3 h.0, map_at curve (a.x ∷ a.y ∷ a.z ∷ []) axis ScalarCurve.None none h.0, h.1) refl
 
-    pub past_axes : (n : ℕ) → AxisIs a axis (AxisCurve.Refused n) → denied n ≡ asked
-    past_axes n h = rw (le-ltb axis 3 h.0, h.1) refl
+    pub past_axes : (e : Refusal) → AxisIs a axis (Err e) → denied (number_of e) ≡ asked
+    past_axes e h = rw (le-ltb axis 3 h.0, h.1) refl
 
 -- ---- rotations
 

@@ -7,11 +7,12 @@ use native.Mathlib.Numerals.{add-one}
 use native.Mathlib.Omega.{arith}
 use lib.ListN.{length, take, drop, get_or, drop_of_length-le}
 use lib.Seq.{drop-cons}
-use Rattle.util.specs.declared.cur.Reach.{Reach}
-use Rattle.util.specs.declared.cur.Tally.{Tally}
-use Rattle.util.specs.declared.cur.Tally.TheVariants.{Whole, Refused}
 use Rattle.util.specs.Reader.{Reader, done, Outcome, accepted, refused, run, bind, each}
-use Rattle.util.specs.ReaderCode.{reach_of, tally_of}
+use Rattle.std.specs.Prelude.{Result, Ok, Err}
+use Rattle.util.specs.declared.refusal.Refusal.{Refusal}
+use Rattle.util.specs.declared.cur.Tally.{Tally}
+use Rattle.util.specs.Refusals.{number_of}
+use Rattle.util.specs.ReaderCode.{outcome, tallied, reach_of, tally_of, Follows}
 use Rattle.util.specs.Sums.{total}
 use Rattle.util.specs.View.{view}
 use Rattle.util.specs.Place.{raised}
@@ -21,11 +22,11 @@ use Rattle.util.proofs.ViewLaws.{view-length, view_there}
 use Rattle.util.proofs.All.{Each}
 
 -- what follows an outcome, from its reach and its count
-abbrev onward : Tally → (ℕ → ℕ → Tally) → Tally
-onward (Whole m c) f = f m c
-onward (Refused n) f = Refused n
+abbrev onward : Outcome ℕ → (ℕ → ℕ → Outcome ℕ) → Outcome ℕ
+onward (accepted m c) f = f m c
+onward (refused n) f = refused n
 
-tally_onward : {A B : Type 0} (g : A → ℕ) (h : B → ℕ) (o : Outcome A) (f : ℕ → A → Outcome B) (k : ℕ → ℕ → Tally) → ((j : ℕ) (a : A) → tally_of h (f j a) ≡ k j (g a))
+tally_onward : {A B : Type 0} (g : A → ℕ) (h : B → ℕ) (o : Outcome A) (f : ℕ → A → Outcome B) (k : ℕ → ℕ → Outcome ℕ) → ((j : ℕ) (a : A) → tally_of h (f j a) ≡ k j (g a))
     → tally_of h (after o f) ≡ onward (tally_of g o) k
 unfolding after
 tally_onward g h (accepted m a) f k e = e m a
@@ -33,17 +34,17 @@ tally_onward g h (refused n) f k e = refl
 
 -- a count that starts from 0
 pub from_none : {B : Type 0} (g : B → ℕ) (o : Outcome (List B)) → tally_of (λ ys. 0 + total g ys) o ≡ tally_of (total g) o
-from_none g (accepted m ys) = ap (Whole m) (zero-add (total g ys))
+from_none g (accepted m ys) = ap (accepted m) (zero-add (total g ys))
 from_none g (refused n) = refl
 
 module _ {A B : Type 0} (g : B → ℕ) (f : A → Reader B) (s : List ℕ) where
   -- what a list of readers comes to, after parts that reach as far as m and a count of c
-  abbrev left : List A → ℕ → ℕ → Tally
+  abbrev left : List A → ℕ → ℕ → Outcome ℕ
   left xs m c = tally_of (λ ys. c + total g ys) (run (each f xs) s m)
 
   one_first : (y : B) (c : ℕ) (o : Outcome (List B)) → tally_of (λ zs. c + total g zs) (after o (λ j ys. accepted j (y ∷ ys))) ≡ tally_of (λ ys. c + g y + total g ys) o
   unfolding after total
-  one_first y c (accepted m ys) = ap (Whole m) (sym (add_assoc c (g y) (total g ys)))
+  one_first y c (accepted m ys) = ap (accepted m) (sym (add_assoc c (g y) (total g ys)))
   one_first y c (refused n) = refl
 
   each_cons : (x : A) (xs : List A) (m c : ℕ) → left (x ∷ xs) m c ≡ onward (tally_of g (run (f x) s m)) (λ j d. left xs j (c + d))
@@ -55,22 +56,22 @@ module _ {A B : Type 0} (g : B → ℕ) (f : A → Reader B) (s : List ℕ) wher
 
   module _ (xs : List A) (d : A) where
     -- what is left of the list from index i on
-    abbrev pub rest : ℕ → ℕ → ℕ → Tally
+    abbrev pub rest : ℕ → ℕ → ℕ → Outcome ℕ
     rest i m c = left (drop i xs) m c
 
     unroll : (i m c : ℕ) → i < length xs → rest i m c ≡ onward (tally_of g (run (f (get_or xs i d)) s m)) (λ j e. rest (i + 1) j (c + e))
     unroll i m c h = rw (drop-cons xs i d h, add-one i) (each_cons (get_or xs i d) (drop (suc i) xs) m c)
 
     -- item i is whole: go on
-    pub next : (i m c j e : ℕ) → i < length xs → tally_of g (run (f (get_or xs i d)) s m) ≡ Whole j e → rest i m c ≡ rest (i + 1) j (c + e)
-    next i m c j e h q = unroll i m c h ∙ ap (λ (o : Tally). onward o (λ j e. rest (i + 1) j (c + e))) q
+    pub next : (i m c j e : ℕ) → i < length xs → tally_of g (run (f (get_or xs i d)) s m) ≡ accepted j e → rest i m c ≡ rest (i + 1) j (c + e)
+    next i m c j e h q = unroll i m c h ∙ ap (λ (o : Outcome ℕ). onward o (λ j e. rest (i + 1) j (c + e))) q
 
     -- item i is refused, and so is the list
-    pub ended : (i m c n : ℕ) → i < length xs → tally_of g (run (f (get_or xs i d)) s m) ≡ Refused n → rest i m c ≡ Refused n
-    ended i m c n h q = unroll i m c h ∙ ap (λ (o : Tally). onward o (λ j e. rest (i + 1) j (c + e))) q
+    pub ended : (i m c n : ℕ) → i < length xs → tally_of g (run (f (get_or xs i d)) s m) ≡ refused n → rest i m c ≡ refused n
+    ended i m c n h q = unroll i m c h ∙ ap (λ (o : Outcome ℕ). onward o (λ j e. rest (i + 1) j (c + e))) q
 
     -- nothing is left
-    pub all : (i m c : ℕ) → length xs ≤ i → rest i m c ≡ Whole m c
+    pub all : (i m c : ℕ) → length xs ≤ i → rest i m c ≡ accepted m c
     unfolding each run total
     all i m c h = rw (drop_of_length-le xs h, add-zero c) refl
 
@@ -78,21 +79,21 @@ module _ {A B : Type 0} (g : B → ℕ) (f : A → Reader B) (s : List ℕ) wher
 
 module _ {A : Type 0} where
   -- an outcome that is whole has a value
-  pub whole_of : (o : Outcome A) (m : ℕ) → reach_of o ≡ Reach.Whole m → (a : A) × (o ≡ accepted m a)
+  pub whole_of : (o : Outcome A) (m : ℕ) → reach_of o ≡ accepted m tt → (a : A) × (o ≡ accepted m a)
   whole_of (accepted k a) m e = (a, cc)
   whole_of (refused n) m e = let z : ◌≡◌ {A = ℕ} 0 1 = cc in absurd (omega arith)
 
-  pub refused_of : (o : Outcome A) (n : ℕ) → reach_of o ≡ Reach.Refused n → o ≡ refused n
+  pub refused_of : (o : Outcome A) (n : ℕ) → reach_of o ≡ refused n → o ≡ refused n
   refused_of (accepted k a) n e = let z : ◌≡◌ {A = ℕ} 0 1 = cc in absurd (omega arith)
   refused_of (refused k) n e = cc
 
   module _ (g : A → ℕ) where
     -- .. and so has one that is counted
-    pub counted_of : (o : Outcome A) (m c : ℕ) → tally_of g o ≡ Whole m c → (a : A) × (o ≡ accepted m a) × (g a ≡ c)
+    pub counted_of : (o : Outcome A) (m c : ℕ) → tally_of g o ≡ accepted m c → (a : A) × (o ≡ accepted m a) × (g a ≡ c)
     counted_of (accepted k a) m c e = (a, cc, cc)
     counted_of (refused n) m c e = let z : ◌≡◌ {A = ℕ} 0 1 = cc in absurd (omega arith)
 
-    pub uncounted_of : (o : Outcome A) (n : ℕ) → tally_of g o ≡ Refused n → o ≡ refused n
+    pub uncounted_of : (o : Outcome A) (n : ℕ) → tally_of g o ≡ refused n → o ≡ refused n
     uncounted_of (accepted k a) n e = let z : ◌≡◌ {A = ℕ} 0 1 = cc in absurd (omega arith)
     uncounted_of (refused k) n e = cc
 
@@ -146,27 +147,41 @@ module _ {A B : Type 0} (f : A → Reader B) (s : List ℕ) (size : ℕ) (read :
 
   module _ (g : B → ℕ) where
     -- what is left from item i on, after parts that reach as far as m and a count of c
-    abbrev pub items_left : ℕ → ℕ → ℕ → Tally
+    abbrev pub items_left : ℕ → ℕ → ℕ → Outcome ℕ
     items_left i m c = rest g f s items d i m c
 
     -- from the first on, with nothing counted yet, that is all of them
     pub items_all : (m : ℕ) → items_left 0 m 0 ≡ tally_of (total g) (run (each f items) s m)
     items_all m = from_none g (run (each f items) s m)
 
-    pub items_end : (i m c : ℕ) → count ≤ i → Whole m c ≡ items_left i m c
+    pub items_end : (i m c : ℕ) → count ≤ i → accepted m c ≡ items_left i m c
     items_end i m c h = sym (all g f s items d i m c (rw item_count h))
 
     -- x is item i, and r what code answers of its reader
-    module _ (i m c : ℕ) (h : i < count) (x : A) (e : x ≡ read (take size (drop (at + size * i) s))) (r : Tally) (q : r ≡ tally_of g (run (f x) s m)) where
+    module _ (i m c : ℕ) (h : i < count) (x : A) (e : x ≡ read (take size (drop (at + size * i) s))) (r : Outcome ℕ) (q : r ≡ tally_of g (run (f x) s m)) where
       item_tally : tally_of g (run (f (get_or items i d)) s m) ≡ r
       item_tally = rw (view_there size read count i at s d h, ← e) (sym q)
 
       -- it is whole: go on; or it is refused, and so are the items
-      pub item_whole : (j k : ℕ) → r ≡ Whole j k → items_left (i + 1) j (c + k) ≡ items_left i m c
+      pub item_whole : (j k : ℕ) → r ≡ accepted j k → items_left (i + 1) j (c + k) ≡ items_left i m c
       item_whole j k w = sym (next g f s items d i m c j k (rw item_count h) (item_tally ∙ w))
 
-      pub item_refused : (n : ℕ) → r ≡ Refused n → Refused n ≡ items_left i m c
+      pub item_refused : (n : ℕ) → r ≡ refused n → refused n ≡ items_left i m c
       item_refused n w = sym (ended g f s items d i m c n (rw item_count h) (item_tally ∙ w))
+
+    -- what code answers that follows them all, where `post` says what it may answer of one
+    pub follow_all : (post : ℕ → ℕ → Result Tally Refusal → Type 0)
+        → ((i m : ℕ) (x : Result Tally Refusal) → i < count → post i m x → outcome tallied x ≡ tally_of g (run (f (read (take size (drop (at + size * i) s)))) s m))
+        → (m : ℕ) (r : Result Tally Refusal) → ((left : ℕ → ℕ → ℕ → Outcome ℕ) → Follows post count left → outcome tallied r ≡ left 0 m 0)
+        → outcome tallied r ≡ tally_of (total g) (run (each f items) s m)
+    follow_all post h m r e =
+        e items_left
+        (record {
+          whole = λ i m c t l p. item_whole i m c l _ refl _ (h i m (Ok t) l p) t.reach t.samples refl;
+          ended = λ i m c x l p. item_refused i m c l _ refl _ (h i m (Err x) l p) (number_of x) refl;
+          none = λ m c. items_end count m c (omega arith);
+        })
+        ∙ items_all m
 
   -- items that are accepted have each been read
   pub items_read : (m : ℕ) (ys : List B) → run (each f items) s 0 ≡ accepted m ys

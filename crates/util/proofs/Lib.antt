@@ -16,3 +16,4 @@ pub mod PiecesLaws
 pub mod ReadsLaws
 pub mod BelowLaws
 pub mod Fields
+pub mod TryLaws

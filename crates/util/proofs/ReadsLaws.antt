@@ -4,17 +4,19 @@ use mathlib.Core.Bool.{Bool, true, false}
 use mathlib.Core.List.{List}
 use mathlib.Core.Path.{◌≡◌, refl, subst, ◌∙◌}
 use native.Mathlib.Omega.{arith}
+use Rattle.std.specs.Prelude.{Result}
+use Rattle.util.specs.declared.refusal.Refusal.{Refusal}
 use Rattle.util.specs.Reader.{Reader, done, Outcome, accepted, refused, run, bind, unless}
 use Rattle.util.specs.ReaderCode.{Reads}
 use Rattle.util.proofs.Calls.{after, run_bind_as}
 
 module _ {A X : Type 0} {means : X → Outcome A} {Holds : X → Type 0} {s : List ℕ} where
   -- readers that run alike are read alike
-  pub alike : {r r' : Reader A} {m m' : ℕ} {x : X} → run r s m ≡ run r' s m' → Reads means Holds r' s m' x → Reads means Holds r s m x
+  pub alike : {r r' : Reader A} {m m' : ℕ} {x : Result X Refusal} → run r s m ≡ run r' s m' → Reads means Holds r' s m' x → Reads means Holds r s m x
   alike e h = record { reads = e ∙ h.reads; holds = h.holds }
 
   -- the answer, once its case is known
-  pub known : {r : Reader A} {m : ℕ} {x y : X} → x ≡ y → Reads means Holds r s m x → Reads means Holds r s m y
+  pub known : {r : Reader A} {m : ℕ} {x y : Result X Refusal} → x ≡ y → Reads means Holds r s m x → Reads means Holds r s m y
   known {r} {m} q h = subst (Reads means Holds r s m) q h
 
 module _ {A B : Type 0} (r : Reader A) (f : A → Reader B) (s : List ℕ) (m : ℕ) where

@@ -5,7 +5,6 @@ use mathlib.Core.Path.{◌≡◌, refl, sym, ap, ◌∙◌}
 use native.Mathlib.Nat.{add-zero, zero-add, add_assoc}
 use native.Mathlib.Omega.{arith}
 use lib.ListN.{length, take, get_or}
-use Rattle.util.specs.declared.cur.Tally.{Tally}
 use Rattle.util.specs.Reader.{Reader, Outcome, accepted, refused, run}
 use Rattle.util.specs.ReaderCode.{tally_of}
 use Rattle.util.specs.Sums.{total, sum_to}
@@ -55,10 +54,10 @@ module _ {A : Type 0} (g : A → ℕ) (b : ℕ) where
   total-le (x ∷ xs) h = let k : g x ≤ b = h.0 in let l = total-le xs h.1 in omega arith
 
   -- the count of what a reader gives, by what code answers of it
-  pub tally_le : (r : Reader A) → All (λ a. g a ≤ b) r → (s : List ℕ) → Bytes s → (m : ℕ) (x : Tally) → x ≡ tally_of g (run r s m) → (j c : ℕ) → x ≡ Tally.Whole j c → c ≤ b
+  pub tally_le : (r : Reader A) → All (λ a. g a ≤ b) r → (s : List ℕ) → Bytes s → (m : ℕ) (x : Outcome ℕ) → x ≡ tally_of g (run r s m) → (j c : ℕ) → x ≡ accepted j c → c ≤ b
   tally_le r h s y m x e j c q = go (run r s m) refl (sym e ∙ q)
     where
-      go : (o : Outcome A) → run r s m ≡ o → tally_of g o ≡ Tally.Whole j c → c ≤ b
+      go : (o : Outcome A) → run r s m ≡ o → tally_of g o ≡ accepted j c → c ≤ b
       go (accepted k a) q w =
           let l : g a ≤ b = all_run (λ x. g x ≤ b) r h s y m k a q in
           let p : g a ≡ c = cc in

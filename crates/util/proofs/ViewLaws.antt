@@ -5,10 +5,14 @@ use mathlib.Core.List.{List, [], ◌∷◌, ◌++◌, map}
 use mathlib.Core.Path.{◌≡◌, refl, sym, ap, ◌∙◌}
 use native.Mathlib.Nat.{mul-zero, mul-suc, add_comm, zero-add, suc-add, add-zero, pow-suc, mul-add, mul_right_comm, mul_comm, add_assoc}
 use native.Mathlib.Omega.{arith}
-use borrow.Author.Tests.{eqb-true, eq-eqb, ne_eqb}
+use borrow.Author.Tests.{eqb-true, eqb-false, eq-eqb}
 use lib.Dec.{eqb}
+use Rattle.std.specs.Prelude.{◌≢◌}
+use Rattle.std.specs.Bool.{MatchBool}
+use Rattle.std.specs.Cmp.Lexicographic.{pointwise, told_text}
+use Rattle.std.proofs.lemmas.Grind.{same_number_lists}
 use lib.ListN.{length, set, take, drop, get_or}
-use lib.Seq.{sets, drop-cons, drop-drop, take-take, take-nil, take-append-le, get_or-take}
+use lib.Seq.{sets, drop-cons, drop-drop, take-take, take-nil, take-append-le}
 use native.Mathlib.Numerals.{add-one}
 use Rattle.util.proofs.Cut.{take-drop-take}
 use Rattle.util.specs.View.{little, little_bytes, word_at, view, same}
@@ -134,25 +138,6 @@ unfolding view
 view-map f size read zero bs = refl
 view-map f size read (suc n) bs = ap (λ (l : List _). f (read (take size bs)) ∷ l) (view-map f size read n (drop size bs))
 
--- ---- the first bytes, compared from the last on
-
-module _ (s b : List ℕ) (k n : ℕ) (h : n < k) where
-  pub same_step : get_or s n 0 ≡ get_or b n 0 → same (suc n) (take k s) b ≡ same n (take k s) b
-  unfolding same
-  same_step e = rw (get_or-take k s n 0 h, eq-eqb (get_or s n 0) (get_or b n 0) e) refl
-
-  pub same_differ : (get_or s n 0 ≡ get_or b n 0 → ⊥) → same (suc n) (take k s) b ≡ false
-  unfolding same
-  same_differ e = rw (get_or-take k s n 0 h, ne_eqb (get_or s n 0) (get_or b n 0) e) refl
-
-pub same_one : (s b : List ℕ) (k : ℕ) → 0 < k → same 1 (take k s) b ≡ eqb (get_or s 0 0) (get_or b 0 0)
-unfolding same
-same_one s b k h = rw (get_or-take k s 0 0 h) (whole (eqb (get_or s 0 0) (get_or b 0 0)))
-  where
-    whole : (x : Bool) → cond x true false ≡ x
-    whole true = refl
-    whole false = refl
-
 -- ---- the bytes of a word, written one by one
 
 pub byte_written : (n : ℕ) (xs : List ℕ) (at i x : ℕ) → i < n
@@ -174,3 +159,33 @@ bytes_written n xs at i x h = sym (ap (λ (k : ℕ). sets xs (at + i) (little_by
   where
     none : (n i : ℕ) → n ≤ i → n - i ≡ 0
     none n i h = omega arith
+
+-- ---- the first bytes, compared
+
+lt_of : (k n : ℕ) → k < suc n → (k ≡ n → ⊥) → k < n
+lt_of k n h d = omega arith
+
+same_each : (n : ℕ) (a b : List ℕ) → same n a b ≡ true → (k : ℕ) → k < n → get_or a k 0 ≡ get_or b k 0
+unfolding same
+same_each zero a b e k h = absurd (omega arith)
+same_each (suc n) a b e k h =
+    let w = both (eqb (get_or a n 0) (get_or b n 0)) (same n a b) e in
+    go (eqb k n) refl (same_each n a b w.1 k) w.0
+  where
+    go : (c : Bool) → eqb k n ≡ c → (k < n → get_or a k 0 ≡ get_or b k 0) → eqb (get_or a n 0) (get_or b n 0) ≡ true → get_or a k 0 ≡ get_or b k 0
+    go true q f u = rw (eqb-true k n q) (eqb-true _ _ u)
+    go false q f u = f (lt_of k n h (eqb-false k n q))
+
+same_self : (n : ℕ) (a : List ℕ) → same n a a ≡ true
+unfolding same
+same_self zero a = refl
+same_self (suc n) a = rw (eq-eqb (get_or a n 0) (get_or a n 0) refl) (same_self n a)
+
+-- `same` of whole lists, as std compares them
+pub same_whole : (a b : List ℕ) (n : ℕ) → length a ≡ n → length b ≡ n → pointwise eqb b a ≡ same n a b
+same_whole a b n e f = go (pointwise eqb b a) (same n a b) (told_text b a (pointwise eqb b a) refl) refl
+  where
+    go : (r w : Bool) → MatchBool r (b ≡ a) (b ≢ a) → same n a b ≡ w → r ≡ w
+    go true w h q = sym (same_self n a) ∙ ap (same n a) (sym h) ∙ q
+    go false true h q = absurd (h (sym (same_number_lists a b (e ∙ sym f) (λ k l. same_each n a b q k (omega arith)))))
+    go false false h q = refl

@@ -1,4 +1,5 @@
 pub mod View
+pub mod Refusals
 pub mod Reader
 pub mod ReaderCode
 pub mod Place

@@ -1,5 +1,9 @@
 // Where reading stands, and how far it went.
-ghost use Rattle.std.specs.Prelude.{◌≡◌, max};
+ghost use Rattle.std.specs.Prelude.{◌≡◌, ℕ, ◌^◌, ◌<◌, ◌≤◌, Ok};
+ghost use Rattle.util.specs.Reader.{Outcome};
+ghost use Rattle.util.specs.ReaderCode.{outcome, tallied, Follows};
+
+use crate::refusal::Refusal;
 
 // The position of the next field, and how far the parts reach that have been read.
 #[derive(Clone, Copy)]
@@ -8,30 +12,32 @@ pub struct Cur {
     pub reach: usize,
 }
 
-// The reach, or the refusal's number.
+// How far some items reach, and how many values their lists have.
 #[derive(Clone, Copy)]
-pub enum Reach {
-    Whole(usize),
-    Refused(u8),
+pub struct Tally {
+    pub reach: usize,
+    pub samples: u64,
 }
 
-// How far some items reach, and how many values their lists have; or the refusal's number.
-#[derive(Clone, Copy)]
-pub enum Tally {
-    Whole(usize, u64),
-    Refused(u8),
-}
-
-// The greater of two positions.
-pub fn greater(a: usize, b: usize) -> usize
-    ensures { result ≡ max a b }
+// Some items, one after the other: `one` is given an item's index and how far the parts before it reach. How far all of them reach, and how
+// many values they have.
+pub fn follow<F: Fn(usize, usize) -> Result<Tally, Refusal>>(
+    count: usize,
+    reach: usize,
+    one: F,
+) -> Result<Tally, Refusal>
+    requires callable { (i m : ℕ) → i < count → F.pre one i m }
+    requires few { count < 65536 }
+    requires short { (i m : ℕ) (t : Tally) → i < count → F.post one i m (Ok t) → t.samples < 2 ^ 40 }
+    ensures { (left : ℕ → ℕ → ℕ → Outcome ℕ) → Follows (F.post one) count left → outcome tallied result ≡ left 0 reach 0 }
 {
-    if a < b { b } else { a }
-}
-
-// The greater of two numbers of sixteen bits.
-pub fn greater16(a: u16, b: u16) -> u16
-    ensures { result ≡ max a b }
-{
-    if a < b { b } else { a }
+    let mut all = Tally { reach, samples: 0 };
+    for i in 0..count {
+        let item = one(i, all.reach)?;
+        all = Tally {
+            reach: item.reach,
+            samples: all.samples + item.samples,
+        };
+    }
+    Ok(all)
 }

@@ -1,11 +1,11 @@
-// Fixed-point numbers as floats: each format is a type with its constants and its reading.
-ghost use Rattle.std.specs.Prelude.{◌≡◌, ◌+◌, ◌-◌, ◌≤◌, ◌<◌};
+// Fixed-point numbers as floats: each format is a type with its constants.
+ghost use Rattle.std.specs.Prelude.{true, ◌≡◌, ℕ, ◌+◌, ◌-◌, ◌≤◌, ◌<◌, ltb, Float, refl};
 ghost use Rattle.std.specs.Float.{binary64};
 ghost use Rattle.std.specs.Float.Ieee.{of_int};
-ghost use Rattle.util.specs.Fixed.{fix1_19_12, fix1_3_12, fix1_10_5, fix1_0_12, twos, fixed};
-ghost use Rattle.util.specs.FixedCode.{limits_of};
+ghost use Rattle.util.specs.Fixed.{fix1_19_12, fix1_3_12, fix1_10_5, fix1_0_12, twos, fixed, least, greatest};
+ghost use Rattle.util.specs.FixedCode.{fix, limits_of};
 
-use crate::bits::bits32;
+use crate::bits::bits;
 
 // How many whole and fraction bits stand behind a format's sign, and its least and greatest value.
 #[derive(Clone, Copy)]
@@ -14,19 +14,6 @@ pub struct Limits {
     pub fraction: u32,
     pub least: f64,
     pub greatest: f64,
-}
-
-impl Limits {
-    fn of(whole: u32, fraction: u32, least: f64, greatest: f64) -> Limits
-        ensures { result ≡ record { whole = whole; fraction = fraction; least = least; greatest = greatest } }
-    {
-        Limits {
-            whole,
-            fraction,
-            least,
-            greatest,
-        }
-    }
 }
 
 // What a two's-complement number v is worth, whose sign bit weighs half.
@@ -50,126 +37,160 @@ fn signed(v: u32, half: u32) -> f64
 }
 
 // The low bits of x as a two's-complement integer, divided by 2 to the fraction bits.
-fn number(x: u32, bits: u32, fraction: u32) -> f64
-    requires { (fraction < bits) × (bits ≤ 32) }
-    ensures { result ≡ fixed (record { whole = bits - 1 - fraction; fraction = fraction }) x }
+fn number(x: u32, width: u32, fraction: u32) -> f64
+    requires { (fraction < width) × (width ≤ 32) }
+    ensures { result ≡ fixed (record { whole = width - 1 - fraction; fraction = fraction }) x }
 {
-    let integer = signed(bits32(x, 0, bits), 1u32 << (bits - 1));
+    let integer = signed(bits(x, 0, width), 1u32 << (width - 1));
     integer / ((1u32 << fraction) as f64)
+}
+
+// A format: a sign bit, whole bits and fraction bits, thirty-two at most.
+pub trait Format {
+    const WHOLE: u32;
+
+    const FRACTION: u32;
+
+    const LEAST: f64;
+
+    const GREATEST: f64;
+
+    ghost WHOLE: { ℕ };
+
+    ghost FRACTION: { ℕ };
+
+    ghost LEAST: { Float };
+
+    ghost GREATEST: { Float };
+
+    ghost fits: { ltb (WHOLE + FRACTION) 32 ≡ true };
+
+    ghost is_least: { LEAST ≡ least (fix WHOLE FRACTION) };
+
+    ghost is_greatest: { GREATEST ≡ greatest (fix WHOLE FRACTION) };
+
+    final fn limits() -> Limits
+        ensures { result ≡ limits_of (fix WHOLE FRACTION) }
+    {
+        Limits {
+            whole: Self::WHOLE,
+            fraction: Self::FRACTION,
+            least: Self::LEAST,
+            greatest: Self::GREATEST,
+        }
+    }
+
+    final fn read(x: u32) -> f64
+        ensures { result ≡ fixed (fix WHOLE FRACTION) x }
+    {
+        number(x, 1 + Self::WHOLE + Self::FRACTION, Self::FRACTION)
+    }
 }
 
 #[derive(Clone, Copy)]
 pub struct Fix1_19_12;
 
-impl Fix1_19_12 {
-    pub const SIGN: u32 = 1;
+impl Format for Fix1_19_12 {
+    const WHOLE: u32 = 19;
 
-    pub const WHOLE: u32 = 19;
+    const FRACTION: u32 = 12;
 
-    pub const FRACTION: u32 = 12;
+    const LEAST: f64 = -524288.0;
 
-    pub const BITS: u32 = Self::SIGN + Self::WHOLE + Self::FRACTION;
+    const GREATEST: f64 = 524287.999755859375;
 
-    pub const LEAST: f64 = -524288.0;
+    ghost WHOLE = { 19 };
 
-    pub const GREATEST: f64 = 524287.999755859375;
+    ghost FRACTION = { 12 };
 
-    pub fn limits() -> Limits
-        ensures { result ≡ limits_of fix1_19_12 }
-    {
-        Limits::of(Self::WHOLE, Self::FRACTION, Self::LEAST, Self::GREATEST)
-    }
+    ghost LEAST = { least fix1_19_12 };
 
-    pub fn read(x: u32) -> f64
-        ensures { result ≡ fixed fix1_19_12 x }
-    {
-        number(x, Self::BITS, Self::FRACTION)
-    }
+    ghost GREATEST = { greatest fix1_19_12 };
+
+    ghost fits = { refl };
+
+    ghost is_least = { refl };
+
+    ghost is_greatest = { refl };
 }
 
 #[derive(Clone, Copy)]
 pub struct Fix1_3_12;
 
-impl Fix1_3_12 {
-    pub const SIGN: u32 = 1;
+impl Format for Fix1_3_12 {
+    const WHOLE: u32 = 3;
 
-    pub const WHOLE: u32 = 3;
+    const FRACTION: u32 = 12;
 
-    pub const FRACTION: u32 = 12;
+    const LEAST: f64 = -8.0;
 
-    pub const BITS: u32 = Self::SIGN + Self::WHOLE + Self::FRACTION;
+    const GREATEST: f64 = 7.999755859375;
 
-    pub const LEAST: f64 = -8.0;
+    ghost WHOLE = { 3 };
 
-    pub const GREATEST: f64 = 7.999755859375;
+    ghost FRACTION = { 12 };
 
-    pub fn limits() -> Limits
-        ensures { result ≡ limits_of fix1_3_12 }
-    {
-        Limits::of(Self::WHOLE, Self::FRACTION, Self::LEAST, Self::GREATEST)
-    }
+    ghost LEAST = { least fix1_3_12 };
 
-    pub fn read(x: u16) -> f64
-        ensures { result ≡ fixed fix1_3_12 x }
-    {
-        number(x as u32, Self::BITS, Self::FRACTION)
-    }
+    ghost GREATEST = { greatest fix1_3_12 };
+
+    ghost fits = { refl };
+
+    ghost is_least = { refl };
+
+    ghost is_greatest = { refl };
 }
 
 #[derive(Clone, Copy)]
 pub struct Fix1_10_5;
 
-impl Fix1_10_5 {
-    pub const SIGN: u32 = 1;
+impl Format for Fix1_10_5 {
+    const WHOLE: u32 = 10;
 
-    pub const WHOLE: u32 = 10;
+    const FRACTION: u32 = 5;
 
-    pub const FRACTION: u32 = 5;
+    const LEAST: f64 = -1024.0;
 
-    pub const BITS: u32 = Self::SIGN + Self::WHOLE + Self::FRACTION;
+    const GREATEST: f64 = 1023.96875;
 
-    pub const LEAST: f64 = -1024.0;
+    ghost WHOLE = { 10 };
 
-    pub const GREATEST: f64 = 1023.96875;
+    ghost FRACTION = { 5 };
 
-    pub fn limits() -> Limits
-        ensures { result ≡ limits_of fix1_10_5 }
-    {
-        Limits::of(Self::WHOLE, Self::FRACTION, Self::LEAST, Self::GREATEST)
-    }
+    ghost LEAST = { least fix1_10_5 };
 
-    pub fn read(x: u16) -> f64
-        ensures { result ≡ fixed fix1_10_5 x }
-    {
-        number(x as u32, Self::BITS, Self::FRACTION)
-    }
+    ghost GREATEST = { greatest fix1_10_5 };
+
+    ghost fits = { refl };
+
+    ghost is_least = { refl };
+
+    ghost is_greatest = { refl };
 }
 
 #[derive(Clone, Copy)]
 pub struct Fix1_0_12;
 
-impl Fix1_0_12 {
-    pub const SIGN: u32 = 1;
+impl Format for Fix1_0_12 {
+    const WHOLE: u32 = 0;
 
-    pub const WHOLE: u32 = 0;
+    const FRACTION: u32 = 12;
 
-    pub const FRACTION: u32 = 12;
+    const LEAST: f64 = -1.0;
 
-    pub const BITS: u32 = Self::SIGN + Self::WHOLE + Self::FRACTION;
+    const GREATEST: f64 = 0.999755859375;
 
-    pub const LEAST: f64 = -1.0;
+    ghost WHOLE = { 0 };
 
-    pub const GREATEST: f64 = 0.999755859375;
+    ghost FRACTION = { 12 };
 
-    pub fn limits() -> Limits
-        ensures { result ≡ limits_of fix1_0_12 }
-    {
-        Limits::of(Self::WHOLE, Self::FRACTION, Self::LEAST, Self::GREATEST)
-    }
+    ghost LEAST = { least fix1_0_12 };
 
-    pub fn read(x: u16) -> f64
-        ensures { result ≡ fixed fix1_0_12 x }
-    {
-        number(x as u32, Self::BITS, Self::FRACTION)
-    }
+    ghost GREATEST = { greatest fix1_0_12 };
+
+    ghost fits = { refl };
+
+    ghost is_least = { refl };
+
+    ghost is_greatest = { refl };
 }

@@ -4,4 +4,5 @@
 pub mod bits;
 pub mod cur;
 pub mod fixed;
+pub mod refusal;
 pub mod view;

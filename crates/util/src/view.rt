@@ -1,5 +1,5 @@
 // Little-endian words of a slice, read and written.
-ghost use Rattle.std.specs.Prelude.{[], ◌∷◌, ◌≡◌, ◌+◌, ◌%◌, ◌≤◌, length, take};
+ghost use Rattle.std.specs.Prelude.{◌≡◌, ◌+◌, ◌%◌, ◌≤◌, length, take};
 ghost use Rattle.std.proofs.lemmas.List.Edits.{sets};
 ghost use Rattle.util.specs.View.{word_at, same, little_bytes};
 
@@ -32,20 +32,11 @@ pub fn word64(s: &[u8], p: usize) -> u64
 }
 
 // Whether the first four bytes are these.
-pub fn starts_with(s: &[u8], a: u8, b: u8, c: u8, d: u8) -> bool
+pub fn starts_with(s: &[u8], stamp: &[u8; 4]) -> bool
     requires { 4 ≤ length s.now }
-    ensures { result ≡ same 4 (take 4 s.now) (a ∷ b ∷ c ∷ d ∷ []) }
+    ensures { result ≡ same 4 (take 4 s.now) stamp.now }
 {
-    if s[3] != d {
-        return false;
-    }
-    if s[2] != c {
-        return false;
-    }
-    if s[1] != b {
-        return false;
-    }
-    s[0] == a
+    s.starts_with(stamp)
 }
 
 fn low_byte(n: u64) -> u8
@@ -80,9 +71,7 @@ pub fn put_bytes(out: &mut [u8], at: usize, bytes: &[u8]) -> usize
     requires { at + length bytes.now ≤ length out.old }
     ensures { (result ≡ at + length bytes.now) × (out.new ≡ sets out.old at bytes.now) }
 {
-    let n = bytes.len();
-    for i in 0..n {
-        out[at + i] = bytes[i];
-    }
-    at + n
+    let end = at + bytes.len();
+    out[at..end].copy_from_slice(bytes);
+    end
 }

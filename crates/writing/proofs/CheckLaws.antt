@@ -14,8 +14,8 @@ use Rattle.util.proofs.WritesLaws.{sets_front}
 use Rattle.pattern.specs.Pattern.{key_of, inside}
 use Rattle.pattern_section.specs.Written.{Lent, texture_count, palette_count, track_count, tracks_of, key_total, key_place, section_length, written}
 use Rattle.writing.specs.WritePattern.{few, whole, chosen_inside, near, write_pattern}
-use Rattle.writing.specs.declared.Writing.{Writing}
-use Rattle.writing.specs.declared.Writing.TheVariants.{Written, Refused}
+use Rattle.std.specs.Prelude.{Result, Ok, Err}
+use Rattle.util.specs.declared.refusal.Refusal.{Refusal}
 use Rattle.writing.specs.WritingCode.{writing_means, WritesSection, lists}
 use Rattle.pattern_section.specs.WrittenCode.{Sized}
 use Rattle.pattern_section.proofs.SizedLaws.{written_length}
@@ -141,23 +141,23 @@ accepted_passed l room n e =
 
 -- ---- the call, whose name and frames play no part in the tests
 
-module _ (l : Lent) (before : List ℕ) (v : Writing) (h : writing_means v ≡ write_pattern (lists l.textures l.palettes l.tracks l.keys) (length before)) where
-  tested : (w : Writing) → v ≡ w → writing_means w ≡ write_pattern l (length before)
+module _ (l : Lent) (before : List ℕ) (v : Result ℕ Refusal) (h : writing_means v ≡ write_pattern (lists l.textures l.palettes l.tracks l.keys) (length before)) where
+  tested : (w : Result ℕ Refusal) → v ≡ w → writing_means w ≡ write_pattern l (length before)
   unfolding write_pattern
   tested w q = ap writing_means (sym q) ∙ h
 
-  pub refused_is : (n : ℕ) → v ≡ Refused n → WritesSection l before before (Refused n)
-  refused_is n q = record { answers = tested (Refused n) q; slice = rw (← tested (Refused n) q) refl }
+  pub refused_is : (n : Refusal) → v ≡ Err n → WritesSection l before before (Err n)
+  refused_is n q = record { answers = tested (Err n) q; slice = rw (← tested (Err n) q) refl }
 
-  module _ (n : ℕ) (q : v ≡ Written n) where
+  module _ (n : ℕ) (q : v ≡ Ok n) where
     pub may_write : Passed l (length before) n
-    may_write = accepted_passed l (length before) n (sym (tested (Written n) q))
+    may_write = accepted_passed l (length before) n (sym (tested (Ok n) q))
 
-    pub written_is : (after : List ℕ) → length l.name ≡ 16 → after ≡ sets before 0 (written l) → WritesSection l before after (Written n)
+    pub written_is : (after : List ℕ) → length l.name ≡ 16 → after ≡ sets before 0 (written l) → WritesSection l before after (Ok n)
     written_is after sixteen e =
         let size : length (written l) ≡ n = written_length l may_write.sized sixteen ∙ sym may_write.size in
         let r = may_write.fits in
         record {
-          answers = tested (Written n) q;
-          slice = rw (← tested (Written n) q) (e ∙ sets_front before (written l) (omega arith) ∙ ap (λ (k : ℕ). written l ++ drop k before) size);
+          answers = tested (Ok n) q;
+          slice = rw (← tested (Ok n) q) (e ∙ sets_front before (written l) (omega arith) ∙ ap (λ (k : ℕ). written l ++ drop k before) size);
         }

@@ -1,18 +1,17 @@
 -- What the code answers. Assumes nothing.
-use Rattle.std.specs.Prelude.{ℕ, List, [], ◌≡◌, length}
-use Rattle.util.specs.Reader.{Verdict, answered, denied}
-use Rattle.writing.specs.declared.Writing.{Writing}
-use Rattle.writing.specs.declared.Writing.TheVariants.{Written, Refused}
+use Rattle.std.specs.Prelude.{ℕ, List, [], ◌≡◌, length, Result}
+use Rattle.util.specs.declared.refusal.Refusal.{Refusal}
+use Rattle.util.specs.Reader.{Verdict}
+use Rattle.util.specs.ReaderCode.{verdict}
 use Rattle.pattern_section.specs.Written.{Lent, lent}
 use Rattle.writing.specs.WritePattern.{write_pattern, slice_after}
 
 -- how many bytes were written, or the number
-abbrev pub writing_means : Writing → Verdict ℕ
-writing_means (Written n) = answered n
-writing_means (Refused n) = denied n
+abbrev pub writing_means : Result ℕ Refusal → Verdict ℕ
+writing_means x = verdict (λ n. n) x
 
 -- the call's answer, and the slice after it
-pub record WritesSection (l : Lent) (before after : List ℕ) (r : Writing) : Type 0 where
+pub record WritesSection (l : Lent) (before after : List ℕ) (r : Result ℕ Refusal) : Type 0 where
   pub answers : writing_means r ≡ write_pattern l (length before)
   pub slice : after ≡ slice_after l before (write_pattern l (length before))
 

@@ -5,8 +5,8 @@ ghost use Rattle.writing.specs.WritePattern.{chosen_inside, near, write_pattern}
 ghost use Rattle.writing.specs.WritePattern as spec;
 ghost use Rattle.writing.specs.WritingCode.{lists, writing_means};
 
-use crate::Writing;
-use pattern::keys_inside;
+use pattern::{ItemList, keys_inside};
+use util::refusal::Refusal;
 use util::view::word32;
 
 // How many keys n tracks have.
@@ -55,7 +55,13 @@ fn whole(textures: &[u8], palettes: &[u8], tracks: &[u8], keys: &[u8]) -> bool
 }
 
 // The last tests, of lists that have passed the others: every offset fits its word, the size its own, and the section into `room` bytes.
-fn check_size(textures: &[u8], palettes: &[u8], tracks: &[u8], keys: &[u8], room: usize) -> Writing
+fn check_size(
+    textures: &[u8],
+    palettes: &[u8],
+    tracks: &[u8],
+    keys: &[u8],
+    room: usize,
+) -> Result<usize, Refusal>
     requires { (spec.few (lists textures.now palettes.now tracks.now keys.now) ≡ true) × (spec.whole (lists textures.now palettes.now tracks.now keys.now) ≡ true) × (chosen_inside (lists textures.now palettes.now tracks.now keys.now) ≡ true) }
     ensures { writing_means result ≡ write_pattern (lists textures.now palettes.now tracks.now keys.now) room }
 {
@@ -63,12 +69,12 @@ fn check_size(textures: &[u8], palettes: &[u8], tracks: &[u8], keys: &[u8], room
     let place = 28 + 28 * n + textures.len() + palettes.len();
     let size = 48 + place + keys.len();
     if !(all_near(tracks, n, place) & (size <= 4294967295)) {
-        return Writing::Refused(16);
+        return Err(Refusal::FarPlace);
     }
     if room < size {
-        return Writing::Refused(11);
+        return Err(Refusal::SmallSlice);
     }
-    Writing::Written(size)
+    Ok(size)
 }
 
 // How many bytes the section of these lists has, or why it cannot be written into `room` bytes.
@@ -78,23 +84,21 @@ pub fn check_lists(
     tracks: &[u8],
     keys: &[u8],
     room: usize,
-) -> Writing
+) -> Result<usize, Refusal>
     ensures { writing_means result ≡ write_pattern (lists textures.now palettes.now tracks.now keys.now) room }
 {
     if !few(textures, palettes, tracks) {
-        return Writing::Refused(15);
+        return Err(Refusal::ManyItems);
     }
     if !whole(textures, palettes, tracks, keys) {
-        return Writing::Refused(9);
+        return Err(Refusal::NoSuchIndex);
     }
-    if !keys_inside(
-        keys,
-        0,
-        keys.len() / 4,
-        textures.len() / 16,
-        palettes.len() / 16,
-    ) {
-        return Writing::Refused(8);
+    let all = ItemList {
+        place: 0,
+        count: keys.len() / 4,
+    };
+    if !keys_inside(keys, all, textures.len() / 16, palettes.len() / 16) {
+        return Err(Refusal::KeyIndex);
     }
     check_size(textures, palettes, tracks, keys, room)
 }

@@ -8,15 +8,9 @@ ghost use Rattle.writing.specs.WritingCode.{WritesSection};
 
 use check::check_lists;
 use pattern_section::put_section;
+use util::refusal::Refusal;
 
-// How many bytes the section has, or why it is refused.
-#[derive(Clone, Copy)]
-pub enum Writing {
-    Written(usize),
-    Refused(u8),
-}
-
-// A section of one entry, written from the start of a lent slice. Lists are bytes: 16 a name, 20 a track (its name, and how many keys it has),
+// A section of one entry, written from the start of a lent slice: how many bytes it has. Lists are bytes: 16 a name, 20 a track (its name, and how many keys it has),
 // 4 a key, track by track.
 pub fn write_pattern(
     name: &[u8; 16],
@@ -26,14 +20,10 @@ pub fn write_pattern(
     tracks: &[u8],
     keys: &[u8],
     out: &mut [u8],
-) -> Writing
+) -> Result<usize, Refusal>
     ensures { WritesSection (lent name.now frames textures.now palettes.now tracks.now keys.now) out.old out.new result }
 {
-    match check_lists(textures, palettes, tracks, keys, out.len()) {
-        Writing::Refused(n) => Writing::Refused(n),
-        Writing::Written(size) => {
-            put_section(out, size, name, frames, textures, palettes, tracks, keys);
-            Writing::Written(size)
-        }
-    }
+    let size = check_lists(textures, palettes, tracks, keys, out.len())?;
+    put_section(out, size, name, frames, textures, palettes, tracks, keys);
+    Ok(size)
 }

@@ -6,7 +6,7 @@ use lib.Dec.{eqb}
 use Rattle.util.specs.Bits.{bits}
 use Rattle.util.specs.Reader.{done, run}
 use Rattle.util.proofs.ReadsLaws.{alike}
-use Rattle.animation.specs.declared.AxesRead.{AxesRead}
+use Rattle.std.specs.Prelude.{Ok}
 use Rattle.animation.specs.declared.AxisCurves.{AxisCurves}
 use Rattle.animation.specs.Animation.{no_axes, axes, animated_axes}
 use Rattle.animation.specs.AnimationCode.{triple_means, AxesReads}
@@ -27,4 +27,4 @@ returns-else-is_clear c =
     let a = c.args in
     let e = sym c.if-is_clear.false ∙ (c.is_clear.ensures ∙ ap (λ (n : ℕ). eqb (bits a.flags n (n + 2)) 0) c.left_out_bit.ensures.0) in
     let f = ap (λ (b : Bool). run (cond b (axes (triple_means a.which) a.flags a.at.pos) (done (no_axes, a.at.pos))) a.s.now a.at.reach) (sym e) in
-    subst (λ (x : AxisCurves). AxesReads (triple_means a.which) (animated_axes (triple_means a.which) a.flags a.at.pos) a.s.now a.at.reach (a.at.pos + 24) (AxesRead.Whole x a.at 0)) (sym c.no_axes.ensures) (record { reads = f; holds = (record { x = tt; y = tt; z = tt }, omega arith, refl) })
+    subst (λ (x : AxisCurves). AxesReads (triple_means a.which) (animated_axes (triple_means a.which) a.flags a.at.pos) a.s.now a.at.reach (a.at.pos + 24) (Ok (record { curves = x; at = a.at; samples = 0 }))) (sym c.no_axes.ensures) (record { reads = f; holds = (record { x = tt; y = tt; z = tt }, omega arith, refl) })

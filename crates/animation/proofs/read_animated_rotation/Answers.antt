@@ -18,20 +18,20 @@ returns-then-not-is_clear c =
       holds = (tt, omega arith);
     }
 
-pub returns-then-bit16 : goal.returns-then-bit16
+pub returns-then-bit : goal.returns-then-bit
 unfolding animated_rotation
-returns-then-bit16 c =
+returns-then-bit c =
     let a = c.args in
     alike
     (ap (λ (b : Bool). run (cond b (rotation a.t.pivot a.t.basis (bit a.flags 8) a.at.pos) (done (none, a.at.pos))) a.s.now a.at.reach) (sym c.is_clear.ensures ∙ c.if-not-is_clear.false)
-    ∙ ap (λ (b : Bool). run (rotation a.t.pivot a.t.basis b a.at.pos) a.s.now a.at.reach) (sym c.bit16.ensures ∙ c.if-bit16.true))
+    ∙ ap (λ (b : Bool). run (rotation a.t.pivot a.t.basis b a.at.pos) a.s.now a.at.reach) (sym c.bit.ensures ∙ c.if-bit.true))
     c.read_constant_rotation.ensures
 
-pub returns-else-bit16 : goal.returns-else-bit16
+pub returns-else-bit : goal.returns-else-bit
 unfolding animated_rotation
-returns-else-bit16 c =
+returns-else-bit c =
     let a = c.args in
     alike
     (ap (λ (b : Bool). run (cond b (rotation a.t.pivot a.t.basis (bit a.flags 8) a.at.pos) (done (none, a.at.pos))) a.s.now a.at.reach) (sym c.is_clear.ensures ∙ c.if-not-is_clear.false)
-    ∙ ap (λ (b : Bool). run (rotation a.t.pivot a.t.basis b a.at.pos) a.s.now a.at.reach) (sym c.bit16.ensures ∙ c.if-bit16.false))
+    ∙ ap (λ (b : Bool). run (rotation a.t.pivot a.t.basis b a.at.pos) a.s.now a.at.reach) (sym c.bit.ensures ∙ c.if-bit.false))
     c.read_rotation_list.ensures

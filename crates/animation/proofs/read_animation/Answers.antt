@@ -1,4 +1,5 @@
 use Rattle.animation.proofs.ObjectLaws.{header_short, offsets_short, wrong_stamp, no_frames, many_objects, objects_refused, objects_whole}
+use Rattle.util.proofs.TryLaws.{passed_on}
 use Rattle.animation.proofs.read_animation.Goals as goal
 
 -- `animation::read_animation` meets its contract. Assumes nothing.
@@ -23,12 +24,13 @@ returns-then-objects-gt-MOST_OBJECTS c =
     let a = c.args in
     many_objects a.s.now _ c.word16-objects.ensures c.if-s-objects.false _ c.starts_with.ensures c.if-not-starts_with.false _ c.word16-frames.ensures c.if-frames-eq0.false c.if-objects-gt-MOST_OBJECTS.true
 
-pub returns-in-Refused : goal.returns-in-Refused
-returns-in-Refused c =
+pub returns-in_err-all : goal.returns-in_err-all
+returns-in_err-all c =
     let a = c.args in
-    objects_refused a.s.now _ c.word16-objects.ensures c.if-s-objects.false _ c.starts_with.ensures c.if-not-starts_with.false _ c.word16-frames.ensures c.if-frames-eq0.false c.if-objects-gt-MOST_OBJECTS.false _ c.read_tables-tables.ensures _ c.follow_objects.ensures _ c.in-Refused.is
+    rw (passed_on _ _ c.from_residual.ensures.1)
+    (objects_refused a.s.now _ c.word16-objects.ensures c.if-s-objects.false _ c.starts_with.ensures c.if-not-starts_with.false _ c.word16-frames.ensures c.if-frames-eq0.false c.if-objects-gt-MOST_OBJECTS.false _ c.read_tables-tables.ensures _ c.in_err-all.ensures)
 
-pub returns-in-Whole : goal.returns-in-Whole
-returns-in-Whole c =
+pub returns : goal.returns
+returns c =
     let a = c.args in
-    objects_whole a.s.now _ c.word16-objects.ensures c.if-s-objects.false _ c.starts_with.ensures c.if-not-starts_with.false _ c.word16-frames.ensures c.if-frames-eq0.false c.if-objects-gt-MOST_OBJECTS.false _ c.read_tables-tables.ensures _ c.follow_objects.ensures _ _ c.in-Whole.is
+    objects_whole a.s.now _ c.word16-objects.ensures c.if-s-objects.false _ c.starts_with.ensures c.if-not-starts_with.false _ c.word16-frames.ensures c.if-frames-eq0.false c.if-objects-gt-MOST_OBJECTS.false _ c.read_tables-tables.ensures _ _ c.in_ok-all.ensures

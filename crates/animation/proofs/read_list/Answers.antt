@@ -1,15 +1,13 @@
-use Rattle.util.proofs.ReadsLaws.{alike, known, goes_on, stops}
+use Rattle.util.proofs.ReadsLaws.{alike, goes_on, stops}
 use Rattle.animation.specs.Animation.{scalar}
+use Rattle.util.proofs.TryLaws.{refuses}
 use Rattle.animation.proofs.read_list.Goals as goal
 
 -- `animation::read_list` meets its contract. Assumes nothing.
-pub read_values-requires : goal.read_values-requires
-read_values-requires c = (known c.in-Whole.is c.read_fields.ensures).holds
-
-pub returns-in-Refused : goal.returns-in-Refused
+pub returns-in_err-fields : goal.returns-in_err-fields
 unfolding scalar
-returns-in-Refused c = record { reads = stops _ _ _ _ _ (known c.in-Refused.is c.read_fields.ensures).reads; holds = tt }
+returns-in_err-fields c = refuses _ _ c.from_residual.ensures.1 (stops _ _ _ _ _ c.in_err-fields.ensures.reads)
 
-pub returns-in-Whole : goal.returns-in-Whole
+pub returns : goal.returns
 unfolding scalar
-returns-in-Whole c = alike (goes_on _ _ _ _ _ _ (known c.in-Whole.is c.read_fields.ensures).reads) c.read_values.ensures
+returns c = alike (goes_on _ _ _ _ _ _ c.in_ok-fields.ensures.reads) c.read_values.ensures

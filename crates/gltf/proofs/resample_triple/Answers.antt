@@ -5,14 +5,6 @@ use Rattle.animation.specs.AnimationCode.{curves_of, InsideAxes}
 use Rattle.gltf.proofs.resample_triple.Goals as goal
 
 -- `gltf::resample_triple` meets its contract. Assumes nothing.
-pub resample-requires : goal.resample-requires
-resample-requires c =
-    subst (λ (w : Triple). InsideAxes c.args.s.now (curves_of w c.args.c)) c.in-Translation.is c.requires
-
-pub resample-requires-in-Scale : goal.resample-requires-in-Scale
-resample-requires-in-Scale c =
-    subst (λ (w : Triple). InsideAxes c.args.s.now (curves_of w c.args.c)) c.in-Scale.is c.requires
-
 pub returns-in-Translation : goal.returns-in-Translation
 unfolding of_bits
 returns-in-Translation c =

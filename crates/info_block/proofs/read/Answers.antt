@@ -1,20 +1,11 @@
 use mathlib.Core.Path.{sym, ◌∙◌}
 use native.Mathlib.Omega.{arith}
-use Rattle.info_block.proofs.InfoBlockLaws.{few, header_short, lists_short, not_zero, wrong_size, whole}
+use Rattle.info_block.proofs.InfoBlockLaws.{header_short, lists_short, not_zero, wrong_size, whole}
 use Rattle.info_block.proofs.read.Goals as goal
 
 -- `info_block::read` meets its contract. Assumes nothing.
 pub returns-then-n-p : goal.returns-then-n-p
 returns-then-n-p c reach = let a = c.args in record { reads = header_short a.p a.size a.s.now reach (omega arith); holds = tt }
-
-pub overflow_mul-names : goal.overflow_mul-names
-overflow_mul-names c = let a = c.args in omega (arith, few a.size c.byte-count.result (omega arith) (omega arith))
-
-pub overflow_add-names : goal.overflow_add-names
-overflow_add-names c = let a = c.args in omega (arith, few a.size c.byte-count.result (omega arith) (omega arith))
-
-pub overflow_add-end : goal.overflow_add-end
-overflow_add-end c = let a = c.args in omega (arith, few a.size c.byte-count.result (omega arith) (omega arith))
 
 pub returns-then-n-end : goal.returns-then-n-end
 returns-then-n-end c reach =

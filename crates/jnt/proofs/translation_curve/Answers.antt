@@ -1,35 +1,24 @@
-use mathlib.Core.Path.{sym, ap, subst, ◌∙◌}
+use mathlib.Core.Path.{sym, ◌∙◌}
 use native.Mathlib.Omega.{arith}
-use lib.ListN.{length}
-use Rattle.animation.specs.declared.Triple.{Triple}
 use Rattle.animation.specs.Animation.{translation}
-use Rattle.animation.proofs.ObjectLaws.{triple_inside}
 use Rattle.calls.specs.Calls.{curve, ask_object}
-use Rattle.nitro.proofs.EntryLaws.{onward, onward_end}
-use Rattle.jnt.specs.OpenedCode.{ObjectOpens}
-use Rattle.jnt.proofs.JntLaws.{inside_here, told_here}
+use Rattle.jnt.proofs.JntLaws.{ends_here, inside_here, told_here, hands_on}
 use Rattle.jnt.proofs.translation_curve.Goals as goal
 
 -- `jnt::translation_curve` meets its contract. Assumes nothing.
-pub record_axis-requires : goal.record_axis-requires
-record_axis-requires c =
-    let a = c.args in
-    let w = subst (ObjectOpens a.s.now a.entry a.object) c.in-At.is c.open_object.ensures in
-    let e = onward c.in-At.off a.s.now in
-    let i = inside_here a.s.now a.entry a.object _ _ w _ e _ c.object_at-c.ensures in
-    let l = onward_end a.s.now c.in-At.off w.start in
-    let n = ap length e in
-    (triple_inside _ _ _ i Triple.Translation, omega (arith, c.well_formed.0))
+pub record_axis-requires-clause-inside : goal.record_axis-requires-clause-inside
+record_axis-requires-clause-inside c =
+    let i = (inside_here c.in_ok-off.ensures c.object_at-c.ensures).trans in
+    (i.x, i.y, i.z)
 
-pub returns-in-Refused : goal.returns-in-Refused
-returns-in-Refused c =
-    let a = c.args in
-    let w = subst (ObjectOpens a.s.now a.entry a.object) c.in-Refused.is c.open_object.ensures in
-    sym (w (curve translation a.axis))
+pub record_axis-requires-clause-entry : goal.record_axis-requires-clause-entry
+record_axis-requires-clause-entry c =
+    let l = ends_here c.in_ok-off.ensures in
+    omega (arith, c.well_formed.0)
 
-pub returns-in-At : goal.returns-in-At
+pub returns-in_err-off : goal.returns-in_err-off
+returns-in_err-off c = hands_on _ _ _ c.from_residual.ensures.1 (c.in_err-off.ensures (curve translation c.args.axis))
+
+pub returns : goal.returns
 unfolding ask_object
-returns-in-At c =
-    let a = c.args in
-    let w = subst (ObjectOpens a.s.now a.entry a.object) c.in-At.is c.open_object.ensures in
-    c.record_axis.ensures ∙ sym (told_here a.s.now a.entry a.object _ _ w _ (onward _ a.s.now) _ c.object_at-c.ensures (curve translation a.axis))
+returns c = c.record_axis.ensures ∙ sym (told_here c.in_ok-off.ensures c.object_at-c.ensures (curve translation c.args.axis))

@@ -1,6 +1,4 @@
-use mathlib.Core.Path.{sym, ap, ◌∙◌}
 use native.Mathlib.Omega.{arith}
-use Rattle.info_block.specs.NameCode.{name_found_means}
 use Rattle.material_animation.proofs.FindLaws.{shift_nothing, found_inside, shift_found}
 use Rattle.material_animation.proofs.find_shift.Goals as goal
 
@@ -8,30 +6,26 @@ use Rattle.material_animation.proofs.find_shift.Goals as goal
 pub overflow_mul-track : goal.overflow_mul-track
 overflow_mul-track c =
     let a = c.args in
-    let e = ap name_found_means (sym c.in-At.is) ∙ c.find_name.ensures in
-    let h = found_inside a.s.now a.a c.requires a.name.now a.frame _ e in
+    let h = found_inside a.s.now a.a c.requires a.name.now a.frame _ c.in_ok-track.ensures in
     omega (arith, c.well_formed.0)
 
-pub overflow_add-block : goal.overflow_add-block
-overflow_add-block c =
+pub overflow_add-a : goal.overflow_add-a
+overflow_add-a c =
     let a = c.args in
-    let e = ap name_found_means (sym c.in-At.is) ∙ c.find_name.ensures in
-    let h = found_inside a.s.now a.a c.requires a.name.now a.frame _ e in
+    let h = found_inside a.s.now a.a c.requires a.name.now a.frame _ c.in_ok-track.ensures in
     omega (arith, c.well_formed.0)
 
 pub eval_uv_shift-requires : goal.eval_uv_shift-requires
 eval_uv_shift-requires c =
     let a = c.args in
-    let e = ap name_found_means (sym c.in-At.is) ∙ c.find_name.ensures in
-    found_inside a.s.now a.a c.requires a.name.now a.frame _ e
+    found_inside a.s.now a.a c.requires a.name.now a.frame _ c.in_ok-track.ensures
 
-pub returns-in-Nothing : goal.returns-in-Nothing
-returns-in-Nothing c =
+pub returns-in_err-track : goal.returns-in_err-track
+returns-in_err-track c =
     let a = c.args in
-    λ w. shift_nothing a.s.now a.a w a.name.now a.frame (ap name_found_means (sym c.in-Nothing.is) ∙ c.find_name.ensures)
+    λ w. rw c.from_residual.ensures (shift_nothing a.s.now a.a w a.name.now a.frame c.in_err-track.ensures)
 
-pub returns-in-At : goal.returns-in-At
-returns-in-At c =
+pub returns : goal.returns
+returns c =
     let a = c.args in
-    let e = ap name_found_means (sym c.in-At.is) ∙ c.find_name.ensures in
-    λ w. shift_found a.s.now a.a w a.name.now a.frame _ e _ c.eval_uv_shift.ensures
+    λ w. shift_found a.s.now a.a w a.name.now a.frame _ c.in_ok-track.ensures _ c.eval_uv_shift.ensures

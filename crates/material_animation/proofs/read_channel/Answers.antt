@@ -23,6 +23,6 @@ pub returns : goal.returns
 returns c =
     let a = c.args in
     record {
-      reads = channel_whole a.s.now a.track a.n c.requires.1 a.reach c.if-n-lt3.false (sym c.byte-flags.ensures ∙ c.if-flags-ne16.false) _ _ (sym c.word16-frames.ensures) (sym c.word32-place.ensures) c.if-s-end.false ∙ to _ _ _ (sym c.greater.ensures);
+      reads = channel_whole a.s.now a.track a.n c.requires.1 a.reach c.if-n-lt3.false (sym c.byte-flags.ensures ∙ c.if-flags-ne16.false) _ _ (sym c.word16-frames.ensures) (sym c.word32-place.ensures) c.if-s-end.false ∙ to _ _ _ (sym c.max.ensures);
       holds = record { ends = c.if-s-end.false; framed = record { ordered = omega arith; rated = lit≤ tt }; frames = omega arith; wide = lit≤ tt };
     }

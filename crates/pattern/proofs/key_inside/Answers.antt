@@ -7,5 +7,5 @@ use Rattle.pattern.proofs.key_inside.Goals as goal
 pub returns : goal.returns
 returns c =
     let a = c.args in
-    rw (c.index_below.ensures, c.bits32.ensures, c.index_below-2.ensures, c.bits32-2.ensures, c.word32-key.ensures)
+    rw (c.index_below.ensures, c.bits.ensures, c.index_below-2.ensures, c.bits-2.ensures, c.word32-key.ensures)
     (key_word a.s.now (a.place + 4 * a.k) (λ (i : ℕ). omega (arith, c.type_inv.s i)) c.requires a.textures a.palettes)

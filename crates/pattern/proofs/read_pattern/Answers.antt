@@ -1,5 +1,6 @@
+use mathlib.Core.Path.{refl}
 use native.Mathlib.Omega.{arith}
-use Rattle.util.proofs.ReadsLaws.{known}
+use Rattle.std.proofs.lemmas.Result.{err_from_is_err_and}
 use Rattle.pattern.proofs.PatternLaws.{header_short, textures_short, palettes_short, block_refused, tracks_whole, tracks_refused}
 use Rattle.pattern.proofs.read_pattern.Goals as goal
 
@@ -17,22 +18,23 @@ returns-then-n-palette_end c =
     let s = c.args.s.now in
     palettes_short s c.read_names-textures.result c.read_names-palettes.result c.read_names-textures.ensures c.read_names-palettes.ensures c.if-n-palette_end.true
 
-pub returns-in-Refused : goal.returns-in-Refused
-returns-in-Refused c =
+pub returns-in_err-block : goal.returns-in_err-block
+returns-in_err-block c =
     let s = c.args.s.now in
-    block_refused s c.read_names-textures.result c.read_names-palettes.result c.read_names-textures.ensures c.read_names-palettes.ensures c.if-n-lt12.false c.if-n-texture_end.false c.if-n-palette_end.false _ (known c.in-Refused.is (c.read.ensures _))
+    let p = err_from_is_err_and c.from_residual.result c.from_residual.ensures.1 in
+    rw (p.1, p.2)
+    (block_refused s c.read_names-textures.result c.read_names-palettes.result c.read_names-textures.ensures c.read_names-palettes.ensures c.if-n-lt12.false c.if-n-texture_end.false c.if-n-palette_end.false _ (c.in_err-block.ensures _))
 
-pub follow_tracks-requires : goal.follow_tracks-requires
-follow_tracks-requires c =
-    let w = (known c.in-Whole.is (c.read.ensures 0)).holds in
-    (omega arith, w.few)
-
-pub returns-in-Whole-follow_tracks : goal.returns-in-Whole-follow_tracks
-returns-in-Whole-follow_tracks c =
+pub returns-in_err-tracks : goal.returns-in_err-tracks
+returns-in_err-tracks c =
     let s = c.args.s.now in
-    tracks_whole s c.read_names-textures.result c.read_names-palettes.result c.read_names-textures.ensures c.read_names-palettes.ensures c.if-n-lt12.false c.if-n-texture_end.false c.if-n-palette_end.false _ (λ reach. known c.in-Whole.is (c.read.ensures reach)) c.greater-start.result (cc) c.follow_tracks.result c.follow_tracks.ensures c.word16-frames.result c.in-Whole-follow_tracks.reach c.in-Whole-follow_tracks.samples c.word16-frames.ensures c.in-Whole-follow_tracks.is
+    let b = (c.in_ok-block.ensures 0).holds in
+    let p = err_from_is_err_and c.from_residual-in_err-tracks.result c.from_residual-in_err-tracks.ensures.1 in
+    rw (p.1, p.2)
+    (tracks_refused s c.read_names-textures.result c.read_names-palettes.result c.read_names-textures.ensures c.read_names-palettes.ensures c.if-n-lt12.false c.if-n-texture_end.false c.if-n-palette_end.false _ c.in_ok-block.ensures c.max-start.result (omega arith) _ c.in_err-tracks.ensures _ refl)
 
-pub returns-in-Refused-follow_tracks : goal.returns-in-Refused-follow_tracks
-returns-in-Refused-follow_tracks c =
+pub returns : goal.returns
+returns c =
     let s = c.args.s.now in
-    tracks_refused s c.read_names-textures.result c.read_names-palettes.result c.read_names-textures.ensures c.read_names-palettes.ensures c.if-n-lt12.false c.if-n-texture_end.false c.if-n-palette_end.false _ (λ reach. known c.in-Whole.is (c.read.ensures reach)) c.greater-start.result (cc) c.follow_tracks.result c.follow_tracks.ensures c.in-Refused-follow_tracks.e c.in-Refused-follow_tracks.is
+    let b = (c.in_ok-block.ensures 0).holds in
+    tracks_whole s c.read_names-textures.result c.read_names-palettes.result c.read_names-textures.ensures c.read_names-palettes.ensures c.if-n-lt12.false c.if-n-texture_end.false c.if-n-palette_end.false _ c.in_ok-block.ensures c.max-start.result (omega arith) _ c.in_ok-tracks.ensures _ _ _ c.word16-frames.ensures refl

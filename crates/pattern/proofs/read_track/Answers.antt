@@ -11,16 +11,16 @@ returns-then-s-end c =
     let r = c.read_track_keys-keys in
     sym (ap (tally_of key_count) (track_short a.textures a.palettes a.s.now a.datum a.reach r.result r.ensures c.if-s-end.true))
 
-pub returns-then-keys_inside : goal.returns-then-keys_inside
-returns-then-keys_inside c =
+pub returns-then-not-keys_inside : goal.returns-then-not-keys_inside
+returns-then-not-keys_inside c =
     let a = c.args in
     let r = c.read_track_keys-keys in
     let k = c.keys_inside in
-    cc (c.greater.ensures, keys_length a.s.now r.result.place r.result.count, ap (tally_of key_count) (track_whole a.textures a.palettes a.s.now a.datum a.reach r.result r.ensures c.if-s-end.false k.result k.ensures c.if-keys_inside.true))
+    sym (ap (tally_of key_count) (track_outside a.textures a.palettes a.s.now a.datum a.reach r.result r.ensures c.if-s-end.false k.result k.ensures c.if-not-keys_inside.true))
 
-pub returns-else-keys_inside : goal.returns-else-keys_inside
-returns-else-keys_inside c =
+pub returns : goal.returns
+returns c =
     let a = c.args in
     let r = c.read_track_keys-keys in
     let k = c.keys_inside in
-    sym (ap (tally_of key_count) (track_outside a.textures a.palettes a.s.now a.datum a.reach r.result r.ensures c.if-s-end.false k.result k.ensures c.if-keys_inside.false))
+    cc (c.max.ensures, keys_length a.s.now r.result, ap (tally_of key_count) (track_whole a.textures a.palettes a.s.now a.datum a.reach r.result r.ensures c.if-s-end.false k.result k.ensures c.if-not-keys_inside.false))

@@ -27,16 +27,13 @@ returns-then-out-n c =
 pub loop-o-init : goal.loop-o-init
 loop-o-init c =
     let a = c.args in
-    (omega arith, refl, λ w. shot_none w.held.objects a.a.objects a.first a.frames a.out.now)
-
-pub object_at-requires : goal.object_at-requires
-object_at-requires c = (c.requires, c.loop-o-test.true)
+    (refl, λ w. shot_none w.held.objects a.a.objects a.first a.frames a.out.now)
 
 pub film_object-requires : goal.film_object-requires
 film_object-requires c =
     let a = c.args in
     let t = c.loop-o-test.true in
-    (object_inside a.s.now a.a c.requires c.loop-o.o t c.object_at.result c.object_at.ensures, t, omega arith, omega (arith, c.loop-o.invariant.1))
+    (object_inside a.s.now a.a c.requires c.loop-o.o t c.object_at.result c.object_at.ensures, t, omega arith, omega (arith, c.loop-o.invariant.0))
 
 pub loop-o-preserved : goal.loop-o-preserved
 loop-o-preserved c =
@@ -45,15 +42,11 @@ loop-o-preserved c =
     let r = c.object_at.result in
     let l = c.loop-o.out in
     let after = c.film_object.new.out in (
-      omega arith,
-      c.film_object.ensures.size ∙ c.loop-o.invariant.1,
+      c.film_object.ensures.size ∙ c.loop-o.invariant.0,
       λ w.
-          shot_more w.held.objects a.a.objects a.first a.frames a.out.now c.loop-o.o l after t (c.loop-o.invariant.2 w)
+          shot_more w.held.objects a.a.objects a.first a.frames a.out.now c.loop-o.o l after t (c.loop-o.invariant.1 w)
           (subst (λ (x : Object). Filmed x c.loop-o.o a.a.objects a.first a.frames l after) (object_found a.s.now a.a w c.loop-o.o t r c.object_at.ensures) c.film_object.ensures),
     )
-
-pub shape_of-out : goal.shape_of-out
-shape_of-out c = c.loop-o.invariant.1
 
 pub returns : goal.returns
 returns c =
@@ -61,4 +54,4 @@ returns c =
     let e : c.loop-o.o ≡ a.a.objects = omega arith in
     λ w.
     filmed w.held.objects a.a.objects a.first a.frames a.out.now w.count (omega arith) (omega arith) c.loop-o.out
-    (subst (λ (o : ℕ). Shot w.held.objects a.a.objects a.first a.frames a.out.now o c.loop-o.out) e (c.loop-o.invariant.2 w))
+    (subst (λ (o : ℕ). Shot w.held.objects a.a.objects a.first a.frames a.out.now o c.loop-o.out) e (c.loop-o.invariant.1 w))

@@ -3,10 +3,10 @@ use Rattle.rotation.specs.Rotation.{turned}
 use Rattle.rotation.proofs.turn.Goals as goal
 
 -- `rotation::turn` meets its contract. Assumes nothing.
-pub returns-then-bit16 : goal.returns-then-bit16
+pub returns-then-bit : goal.returns-then-bit
 unfolding turned
-returns-then-bit16 c = rw (sym c.bit16.ensures ∙ c.if-bit16.true) refl
+returns-then-bit c = rw (sym c.bit.ensures ∙ c.if-bit.true) refl
 
-pub returns-else-bit16 : goal.returns-else-bit16
+pub returns-else-bit : goal.returns-else-bit
 unfolding turned
-returns-else-bit16 c = rw (sym c.bit16.ensures ∙ c.if-bit16.false) refl
+returns-else-bit c = rw (sym c.bit.ensures ∙ c.if-bit.false) refl

@@ -1,9 +1,8 @@
-use mathlib.Core.Path.{sym, ap, subst, ◌∙◌}
+use mathlib.Core.Path.{subst}
 use native.Mathlib.Omega.{arith}
-use Rattle.curve.specs.Curve.{recorded, always}
+use Rattle.curve.specs.Curve.{recorded}
 use Rattle.curve.proofs.SampleLaws.{list_recorded}
-use Rattle.animation.specs.declared.RotationCurve.{RotationCurve}
-use Rattle.animation.specs.AnimationCode.{rotation_curve, InsideRotation}
+use Rattle.animation.specs.AnimationCode.{InsideRotation}
 use Rattle.animation.proofs.RotationLaws.{matrix_count}
 use Rattle.trs.proofs.record_rotation.Goals as goal
 
@@ -19,16 +18,13 @@ record_list-requires c =
 
 pub returns-in-None : goal.returns-in-None
 unfolding recorded
-returns-in-None c = let a = c.args in sym (ap (λ (x : RotationCurve). recorded a.entry (rotation_curve a.t a.s.now x)) c.in-None.is)
+returns-in-None c = rw c.in-None.is
 
 pub returns-in-Constant : goal.returns-in-Constant
 unfolding recorded
-returns-in-Constant c =
-    let a = c.args in
-    ap always c.matrix_of.ensures ∙ sym (ap (λ (x : RotationCurve). recorded a.entry (rotation_curve a.t a.s.now x)) c.in-Constant.is)
+returns-in-Constant c = rw (c.in-Constant.is, c.matrix_of.ensures)
 
 pub returns-in-Samples : goal.returns-in-Samples
 returns-in-Samples c =
     let a = c.args in
-    list_recorded _ _ a.entry _ c.record_list.ensures.0 c.record_list.ensures.1 (matrix_count a.t a.s.now c.in-Samples.l)
-    ∙ sym (ap (λ (x : RotationCurve). recorded a.entry (rotation_curve a.t a.s.now x)) c.in-Samples.is)
+    rw c.in-Samples.is (list_recorded _ _ a.entry _ c.record_list.ensures.0 c.record_list.ensures.1 (matrix_count a.t a.s.now c.in-Samples.l))

@@ -1,19 +1,16 @@
-use mathlib.Core.Path.{sym}
-use mathlib.Core.Path.{ap, ◌∙◌}
-use Rattle.nitro.specs.ContainerCode.{kind_means, stamp_means}
-use Rattle.nitro.proofs.EntryLaws.{open_unstamped, open_other, stamp_same}
+use Rattle.std.proofs.Common.{rules}
+use Rattle.nitro.specs.ContainerCode.{kind_means}
+use Rattle.util.proofs.TryLaws.{refuses}
+use Rattle.nitro.proofs.EntryLaws.{open_unstamped, open_other}
 use Rattle.nitro.proofs.entry.open.Goals as goal
 
 -- `nitro::entry::open` meets its contract. Assumes nothing.
-pub open_stamped-requires : goal.open_stamped-requires
-open_stamped-requires c =
+pub returns-in_err-read_stamp : goal.returns-in_err-read_stamp
+returns-in_err-read_stamp c =
     let a = c.args in
-    stamp_same a.s.now a.i c.in-Whole.k a.kind (c.read_stamp.ensures ∙ ap stamp_means c.in-Whole.is) (sym c.same_kind.ensures ∙ c.if-same_kind.true)
+    refuses _ _ c.from_residual.ensures.1 (open_unstamped a.s.now a.i (kind_means a.kind) _ c.in_err-read_stamp.ensures)
 
-pub returns-in-Refused : goal.returns-in-Refused
-returns-in-Refused c = let a = c.args in record { reads = open_unstamped a.s.now a.i (kind_means a.kind) _ (c.read_stamp.ensures ∙ ap stamp_means c.in-Refused.is); holds = tt }
-
-pub returns-else-same_kind : goal.returns-else-same_kind
-returns-else-same_kind c =
+pub returns-else-eq : goal.returns-else-eq
+returns-else-eq c =
     let a = c.args in
-    record { reads = open_other a.s.now a.i c.in-Whole.k a.kind (c.read_stamp.ensures ∙ ap stamp_means c.in-Whole.is) (sym c.same_kind.ensures ∙ c.if-same_kind.false); holds = tt }
+    record { reads = open_other a.s.now a.i _ a.kind c.in_ok-read_stamp.ensures (λ q. search rules); holds = tt }

@@ -1,6 +1,6 @@
 use mathlib.Core.Path.{◌∙◌}
-use Rattle.util.proofs.ReadsLaws.{known}
 use Rattle.nitro.specs.ContainerCode.{kind_means}
+use Rattle.util.proofs.TryLaws.{refuses}
 use Rattle.nitro.proofs.EntryLaws.{stamped_room, open_run, open_past, open_at}
 use Rattle.nitro.proofs.entry.open_stamped.Goals as goal
 
@@ -8,17 +8,17 @@ use Rattle.nitro.proofs.entry.open_stamped.Goals as goal
 pub find_entry-requires : goal.find_entry-requires
 find_entry-requires c = stamped_room c.args.s.now c.args.i (kind_means c.args.kind) c.requires
 
-pub returns-then-s-off : goal.returns-then-s-off
-returns-then-s-off c =
+pub returns-then-s-e : goal.returns-then-s-e
+returns-then-s-e c =
     let a = c.args in
-    record { reads = open_past a.s.now a.i (kind_means a.kind) c.requires _ (λ k. known c.in-At.is (c.find_entry.ensures k)) c.if-s-off.true; holds = tt }
+    record { reads = open_past a.s.now a.i (kind_means a.kind) c.requires _ c.in_ok-e.ensures c.if-s-e.true; holds = tt }
 
-pub returns-in-Refused : goal.returns-in-Refused
-returns-in-Refused c =
+pub returns-in_err-e : goal.returns-in_err-e
+returns-in_err-e c =
     let a = c.args in
-    record { reads = open_run a.s.now a.i (kind_means a.kind) c.requires ∙ (known c.in-Refused.is (c.find_entry.ensures (kind_means a.kind))).reads; holds = tt }
+    refuses _ _ c.from_residual.ensures.1 (open_run a.s.now a.i (kind_means a.kind) c.requires ∙ (c.in_err-e.ensures (kind_means a.kind)).reads)
 
-pub returns-else-s-off : goal.returns-else-s-off
-returns-else-s-off c =
+pub returns : goal.returns
+returns c =
     let a = c.args in
-    open_at a.s.now a.i (kind_means a.kind) c.requires _ (λ k. known c.in-At.is (c.find_entry.ensures k)) c.if-s-off.false
+    open_at a.s.now a.i (kind_means a.kind) c.requires _ c.in_ok-e.ensures c.if-s-e.false

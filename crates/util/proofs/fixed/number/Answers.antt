@@ -7,9 +7,9 @@ use Rattle.util.proofs.fixed.number.Goals as goal
 pub signed-integer-requires : goal.signed-integer-requires
 signed-integer-requires c =
     let a = c.args in
-    signed_fits (record { whole = a.bits - 1 - a.fraction; fraction = a.fraction }) (omega arith) a.bits (omega arith) a.x _ c.bits32.ensures
+    signed_fits (record { whole = a.width - 1 - a.fraction; fraction = a.fraction }) (omega arith) a.width (omega arith) a.x _ c.bits.ensures
 
 pub returns : goal.returns
 returns c =
     let a = c.args in
-    number_law _ (omega arith) a.bits (omega arith) a.x _ c.bits32.ensures _ c.signed-integer.ensures
+    number_law _ (omega arith) a.width (omega arith) a.x _ c.bits.ensures _ c.signed-integer.ensures

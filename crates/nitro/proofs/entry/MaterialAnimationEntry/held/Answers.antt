@@ -1,0 +1,6 @@
+use Rattle.material_animation.proofs.MaterialLaws.{track_count_lem}
+use Rattle.nitro.proofs.entry.MaterialAnimationEntry.held.Goals as goal
+
+-- `nitro::entry::MaterialAnimationEntry::held` meets its contract. Assumes nothing.
+pub returns : goal.returns
+returns c = λ s w. record { held = w.held; reads = w.reads; frames = w.frames; count = track_count_lem s _ w; samples = w.samples; inside = w.inside }

@@ -1,6 +1,0 @@
-use Rattle.util.proofs.BitsLaws.{field_is}
-use Rattle.util.proofs.bits.bits32.Goals as goal
-
--- `util::bits::bits32` meets its contract. Assumes nothing.
-pub returns : goal.returns
-returns c = field_is 32 _ _ _ c.requires.0 c.requires.1
