@@ -21,8 +21,7 @@ use Rattle.matrix.specs.Finite.{FiniteMat}
 use Rattle.matrix.specs.Matrix.{f0, f1, trs}
 use Rattle.matrix.proofs.MagnitudeLaws.{Three, Nine, three, translation_below, rotation_below, scale_below, product_below, below_mat}
 use Rattle.rotation.proofs.MagnitudeLaws.{pivot_small, basis_small}
-use Rattle.curve.specs.declared.Pair.{Pair}
-use Rattle.curve.specs.Curve.{none}
+use Rattle.curve.specs.Curve.{none, Pair}
 use Rattle.curve.proofs.MagnitudeLaws.{SizedCurve, SmallPair, firsts_sized, count_few, scalar_sized, rotation_sized, number_small, pair_small, sized}
 use Rattle.animation.specs.Animation.{PerAxis, Axes, Object, Animation, no_axes, axes_samples, object_samples, most_objects, Triple, translation, scale, Value, first_numbers, value_from, left_out_bit, start_of, end_of, values_of, width_of, format_of, curve_word, list_fields, scalar_list, scalar, axes, animated_axes, pivot_of, basis_of, pivot_record, basis_record, referred, reference, rotation_list, rotation, animated_rotation, animated, object, animation, axes_at, matrix_at}
 use Rattle.animation.proofs.ScalarLaws.{end_lt, word_told}

@@ -9,8 +9,7 @@ use Rattle.matrix.specs.declared.Mat3.{Mat3}
 use Rattle.matrix.specs.declared.Mat4.{Mat4}
 use Rattle.matrix.specs.Matrix.{f0, f1, col3, identity3, trs}
 use Rattle.rotation.specs.Rotation.{pivot_mat, basis_mat}
-use Rattle.curve.specs.declared.Pair.{Pair}
-use Rattle.curve.specs.Curve.{left_over, ListRecord, Curve, none, constant, samples, sample_count, number_bytes, number_of, pair_of, firsts, mix, mix_mat, sample_at}
+use Rattle.curve.specs.Curve.{left_over, ListRecord, Curve, none, constant, samples, sample_count, number_bytes, number_of, Pair, pair_of, firsts, mix, mix_mat, sample_at}
 
 -- the curves of the three axes
 pub record PerAxis (A : Type 0) : Type 0 where

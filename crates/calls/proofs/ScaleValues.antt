@@ -10,8 +10,7 @@ use lib.ListN.{length, get_or}
 use Rattle.util.specs.Reader.{Outcome, accepted, refused, run, Verdict, answered, given, tell}
 use Rattle.util.proofs.ReadsLaws.{goes_on, stops, not_both}
 use Rattle.matrix.specs.Matrix.{f0}
-use Rattle.curve.specs.declared.Pair.{Pair}
-use Rattle.curve.specs.Curve.{Curve, none, constant, samples, stored, pair_at, Recorded, always, recorded}
+use Rattle.curve.specs.Curve.{Curve, none, constant, samples, stored, pair_at, Recorded, always, recorded, Pair}
 use Rattle.animation.specs.Animation.{still_object}
 use Rattle.nitro.specs.Container.{jnt, Entry, entry_of}
 use Rattle.calls.specs.Calls.{ask_object, ask, reader, answer}

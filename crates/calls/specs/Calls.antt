@@ -9,8 +9,7 @@ use Rattle.matrix.specs.declared.Mat3.{Mat3}
 use Rattle.matrix.specs.declared.Mat4.{Mat4}
 use Rattle.matrix.specs.Matrix.{bytes_of}
 use Rattle.info_block.specs.Name.{Name, earliest}
-use Rattle.curve.specs.declared.Pair.{Pair}
-use Rattle.curve.specs.Curve.{Curve, none, pair_at, Recorded, recorded}
+use Rattle.curve.specs.Curve.{Curve, none, Pair, pair_at, Recorded, recorded}
 use Rattle.animation.specs.Animation.{Object, still_object, on_axis, Triple, Value, axes_of, sampled_of, default_of, matrix_at}
 use Rattle.material_animation.specs.MaterialAnimation.{uv_matrix_at}
 use Rattle.pattern.specs.Pattern.{Key, Track, no_track, choice}

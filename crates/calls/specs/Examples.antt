@@ -6,8 +6,7 @@ use Rattle.std.specs.Float.Ieee.{neg}
 use Rattle.util.specs.View.{little_bytes}
 use Rattle.util.specs.Reader.{Outcome, accepted, refused, Verdict, answered, denied}
 use Rattle.matrix.specs.Matrix.{f0, f1, col4}
-use Rattle.curve.specs.declared.Pair.{Pair}
-use Rattle.curve.specs.Curve.{always, listed}
+use Rattle.curve.specs.Curve.{Pair, always, listed}
 use Rattle.animation.specs.Animation.{translation, scale}
 use Rattle.nitro.specs.Container.{jnt, srt, pat, stamp_of, EntryRecord}
 use Rattle.gltf.specs.Curve.{no_span, span}

@@ -2,8 +2,7 @@
 -- proofs/ScaleValues.antt for every section, with nothing else assumed.
 use Rattle.std.specs.Prelude.{ℕ, ◌≤◌, ◌<◌, List, ◌≡◌}
 use Rattle.util.specs.Reader.{Outcome, accepted, refused}
-use Rattle.curve.specs.declared.Pair.{Pair}
-use Rattle.curve.specs.Curve.{Recorded, no_curve, always, listed}
+use Rattle.curve.specs.Curve.{Pair, Recorded, no_curve, always, listed}
 use Rattle.animation.specs.Animation.{scale}
 use Rattle.nitro.specs.Container.{jnt}
 use Rattle.calls.specs.Calls.{of_object, curve, scale_value, on, answer}

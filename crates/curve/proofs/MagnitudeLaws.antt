@@ -20,8 +20,7 @@ use Rattle.matrix.specs.declared.Col3.{Col3}
 use Rattle.matrix.specs.declared.Mat3.{Mat3}
 use Rattle.matrix.specs.Matrix.{identity3}
 use Rattle.matrix.proofs.MagnitudeLaws.{Three, Nine, three}
-use Rattle.curve.specs.declared.Pair.{Pair}
-use Rattle.curve.specs.Curve.{ListRecord, FramesTold, Curve, none, constant, samples, sample_count, number_of, pair_of, firsts, floor, ceil, of_whole, index, mix, mix_col, mix_mat, between, sample_list, sample_at, RecordTells, recorded}
+use Rattle.curve.specs.Curve.{ListRecord, FramesTold, Curve, none, constant, samples, sample_count, number_of, Pair, pair_of, firsts, floor, ceil, of_whole, index, mix, mix_col, mix_mat, between, sample_list, sample_at, RecordTells, recorded}
 use Rattle.curve.proofs.IndexLaws.{index_held, index_upto, floor-le}
 
 -- g is the fraction, and its bound is crude

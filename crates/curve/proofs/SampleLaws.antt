@@ -20,8 +20,7 @@ use Rattle.curve.specs.declared.SampleList.{SampleList}
 use Rattle.curve.specs.declared.ListRecord.{ListRecord as CodeRecord}
 use Rattle.curve.specs.declared.Spot.{Spot}
 use Rattle.curve.specs.declared.ScalarCurve.{ScalarCurve}
-use Rattle.curve.specs.declared.Pair.{Pair}
-use Rattle.curve.specs.Curve.{ListRecord, counted_from, samples, sample_count, stored, number_bytes, number_of, pair_of, firsts, pair_at, index, between, sample_list, sample_at, Recorded, listed, recorded}
+use Rattle.curve.specs.Curve.{ListRecord, counted_from, samples, sample_count, stored, number_bytes, number_of, Pair, pair_of, firsts, pair_at, index, between, sample_list, sample_at, Recorded, listed, recorded}
 use Rattle.curve.specs.CurveCode.{spot_at, on_value, spot_of, SpotIn, format_means, list_means, list_record_means, values_in, curve_in, scalar_curve, pair_curve, InsideList, Inside, InsideOf}
 use Rattle.curve.proofs.IndexLaws.{index_rest}
 

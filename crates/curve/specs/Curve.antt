@@ -5,7 +5,6 @@ use Rattle.std.specs.Float.Ieee.{add, sub, mul, div, of_int}
 use Rattle.std.specs.Float.Ieee.Positive.{num, den}
 use Rattle.matrix.specs.declared.Col3.{Col3}
 use Rattle.matrix.specs.declared.Mat3.{Mat3}
-use Rattle.curve.specs.declared.Pair.{Pair}
 use Rattle.util.specs.View.{word_at}
 use Rattle.util.specs.Reader.{Verdict, answered, given}
 use Rattle.util.specs.Fixed.{Fix, width, fixed}
@@ -68,7 +67,12 @@ number_bytes f = width f / 8
 abbrev pub number_of : Fix → List ℕ → Float
 number_of f bs = fixed f (word_at (number_bytes f) bs 0)
 
--- the pair of a value's bytes, of which the first number is sampled: the second stands behind it, in the same format
+-- one value of a scale: two numbers, of which the first is sampled
+pub record Pair : Type 0 where
+  pub first : Float
+  pub second : Float
+
+-- the pair of a value's bytes: the second number stands behind the first, in the same format
 abbrev pub pair_of : Fix → List ℕ → Pair
 pair_of f bs = record { first = number_of f bs; second = number_of f (drop (number_bytes f) bs) }
 

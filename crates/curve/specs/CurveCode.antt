@@ -13,8 +13,8 @@ use Rattle.curve.specs.declared.ListRecord.{ListRecord as CodeRecord}
 use Rattle.curve.specs.declared.ScalarCurve.{ScalarCurve}
 use Rattle.curve.specs.declared.ScalarCurve.TheVariants.{None, Constant, Samples}
 use Rattle.curve.specs.declared.CurveRecord.{CurveRecord}
-use Rattle.curve.specs.declared.Pair.{Pair}
-use Rattle.curve.specs.Curve.{left_over, ListRecord, Curve, none, constant, samples, number_bytes, number_of, pair_of, floor, ceil, of_whole, index, Recorded, no_curve, always, listed}
+use Rattle.curve.specs.declared.Pair.{Pair as CodePair}
+use Rattle.curve.specs.Curve.{left_over, ListRecord, Curve, none, constant, samples, number_bytes, number_of, Pair, pair_of, floor, ceil, of_whole, index, Recorded, no_curve, always, listed}
 
 -- the places around i
 abbrev pub spot_at : Float → Spot
@@ -97,6 +97,9 @@ pub record Gives {A : Type 0} (mixed : A → A → Float → A) (post : ℕ → 
   pub count : length values ≡ n
   pub there : (k : ℕ) → k < n → (r : A) → post k r → r ≡ get_or values k default
   pub still : (k : ℕ) → k < n → (r : A) → post k r → mixed r r f0 ≡ r
+
+abbrev pub pair_means : CodePair → Pair
+pair_means v = record { first = v.first; second = v.second }
 
 module _ {T A : Type 0} where
   -- a curve's record, by the cases of the code's enum: `means` says what its constant stands for

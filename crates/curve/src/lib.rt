@@ -6,7 +6,7 @@ ghost use Rattle.util.specs.Fixed.{Fix, fix1_19_12};
 ghost use Rattle.util.specs.ReaderCode.{verdict};
 ghost use Rattle.util.specs.Within.{Under};
 ghost use Rattle.curve.specs.Curve.{samples, sample_count, counted_from, index, mix, mix_col, mix_mat, sample_at, number_bytes, number_of, pair_of, pair_at, recorded};
-ghost use Rattle.curve.specs.CurveCode.{spot_at, on_value, SpotIn, format_means, list_means, list_record_means, Framed, Gives, curve_in, scalar_curve, pair_curve, Inside, InsideOf, record_means};
+ghost use Rattle.curve.specs.CurveCode.{spot_at, on_value, SpotIn, format_means, list_means, list_record_means, Framed, Gives, curve_in, scalar_curve, pair_curve, Inside, InsideOf, pair_means, record_means};
 ghost use Rattle.curve.specs.Curve as spec;
 
 use matrix::{Col3, Mat3};
@@ -65,16 +65,21 @@ pub enum CurveRecord<T> {
 
 // What some bytes of a section are read as.
 pub trait Value {
+    // what it stands for
+    ghost Meant: { Type 0 };
+
+    ghost means: { Self → Meant };
+
     // how many numbers it has
     ghost numbers: { ℕ };
 
     // .. and what it is, of its bytes
-    ghost reading: { Fix → List ℕ → Self };
+    ghost reading: { Fix → List ℕ → Meant };
 
     // The value at a place.
     fn read(s: &[u8], place: usize, number: Number) -> Self
         requires { place + number_bytes (format_means number) * numbers ≤ length s.now }
-        ensures { result ≡ reading (format_means number) (drop place s.now) };
+        ensures { means result ≡ reading (format_means number) (drop place s.now) };
 }
 
 // What can be mixed.
@@ -229,6 +234,10 @@ fn number_bytes(number: Number) -> usize
 }
 
 impl Value for f64 {
+    ghost Meant = { Float };
+
+    ghost means = { λ v. v };
+
     ghost numbers = { 1 };
 
     ghost reading = { number_of };
@@ -243,6 +252,10 @@ impl Value for f64 {
 }
 
 impl Value for Pair {
+    ghost Meant = { spec.Pair };
+
+    ghost means = { pair_means };
+
     ghost numbers = { 2 };
 
     ghost reading = { pair_of };
@@ -258,7 +271,7 @@ impl Value for Pair {
 // A constant.
 fn constant<V: Value>(s: &[u8], place: usize) -> V
     requires { place + 4 * V.numbers ≤ length s.now }
-    ensures { result ≡ V.reading fix1_19_12 (drop place s.now) }
+    ensures { V.means result ≡ V.reading fix1_19_12 (drop place s.now) }
 {
     V::read(s, place, Number::Fix1_19_12)
 }
@@ -266,7 +279,7 @@ fn constant<V: Value>(s: &[u8], place: usize) -> V
 // Value k of a list.
 fn list_value<V: Value>(s: &[u8], l: SampleList, number: Number, k: usize) -> V
     requires { InsideOf V.numbers s.now (ScalarCurve.Samples l number) × (k < l.length) }
-    ensures { result ≡ V.reading (format_means number) (drop (l.place + l.size * k) s.now) }
+    ensures { V.means result ≡ V.reading (format_means number) (drop (l.place + l.size * k) s.now) }
 {
     V::read(s, l.place + l.size as usize * k, number)
 }
@@ -327,7 +340,7 @@ pub fn record_list(l: SampleList, entry: usize) -> ListRecord
 // The pair at an index of those that a curve stores.
 pub fn pair_at(s: &[u8], c: ScalarCurve, index: usize) -> Result<Pair, Refusal>
     requires { InsideOf 2 s.now c }
-    ensures { verdict (λ v. v) result ≡ pair_at (pair_curve s.now c) index }
+    ensures { verdict pair_means result ≡ pair_at (pair_curve s.now c) index }
 {
     match c {
         ScalarCurve::Constant(place) if index == 0 => Ok(constant(s, place)),
@@ -341,7 +354,7 @@ pub fn pair_at(s: &[u8], c: ScalarCurve, index: usize) -> Result<Pair, Refusal>
 // A curve's record, in an entry that stands at `entry`: the slice is the section from there on.
 pub fn record<V: Value>(s: &[u8], c: ScalarCurve, entry: usize) -> CurveRecord<V>
     requires { InsideOf V.numbers s.now c × (entry + length s.now < 18446744073709551616) }
-    ensures { record_means (λ v. v) result ≡ recorded entry (curve_in V.reading s.now c) }
+    ensures { record_means V.means result ≡ recorded entry (curve_in V.reading s.now c) }
 {
     match c {
         ScalarCurve::None => CurveRecord::None,

@@ -7,7 +7,7 @@ use lib.Ieee.{Float}
 use lib.ListN.{length, take, drop}
 use Rattle.std.specs.Prelude.{Result, IsErrAnd}
 use Rattle.util.specs.declared.refusal.Refusal.{Refusal}
-use Rattle.util.specs.Refusals.{number_of}
+use Rattle.util.specs.RefusalCode.{number_of}
 use Rattle.util.specs.ReaderCode.{verdict}
 use Rattle.util.proofs.TryLaws.{passed_on}
 use Rattle.util.specs.Reader.{Outcome, accepted, refused, run, Verdict, denied, told}

@@ -1,7 +1,7 @@
 -- What the code of opened.rt finds: the object that a call asks about. Assumes nothing.
 use Rattle.std.specs.Prelude.{ℕ, ◌≤◌, ◌<◌, List, ◌≡◌, length, drop, Result, MatchResult}
 use Rattle.util.specs.declared.refusal.Refusal.{Refusal}
-use Rattle.util.specs.Refusals.{number_of}
+use Rattle.util.specs.RefusalCode.{number_of}
 use Rattle.util.specs.Reader.{denied, told}
 use Rattle.animation.specs.declared.Animation.{Animation as Known}
 use Rattle.animation.specs.declared.TRSCurves.{TRSCurves}

@@ -6,6 +6,7 @@ mod opened;
 ghost use Rattle.std.specs.Prelude.{◌≡◌};
 ghost use Rattle.util.specs.Reader.{told};
 ghost use Rattle.util.specs.ReaderCode.{verdict};
+ghost use Rattle.curve.specs.CurveCode.{pair_means};
 ghost use Rattle.animation.specs.Animation.{translation, scale};
 ghost use Rattle.animation.specs.AnimationCode.{triple_means};
 ghost use Rattle.trs.specs.TrsCode.{curve_means, scale_means, rotation_answer_means};
@@ -75,7 +76,7 @@ pub fn scale_value(
     axis: usize,
     index: usize,
 ) -> Result<Pair, Refusal>
-    ensures { verdict (λ v. v) result ≡ told (answer (on jnt entry (of_object object (scale_value axis index))) s.now) }
+    ensures { verdict pair_means result ≡ told (answer (on jnt entry (of_object object (scale_value axis index))) s.now) }
 {
     let (off, a) = open_object(s, entry, object)?;
     let here = &s[off..];

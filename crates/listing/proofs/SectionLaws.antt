@@ -21,7 +21,7 @@ use Rattle.nitro.specs.ContainerCode.{HeaderReads}
 use Rattle.text.specs.Text.{ascii, decimal, line}
 use Rattle.listing.specs.Listing.{stamp_text, entry_lines, entries_from, total_lines, accepted_in, refused_in, samples_in, header, entry_listing, section_lines, body, form_line, listing}
 use Rattle.text.specs.declared.Text.{Text}
-use Rattle.text.specs.Writes.{pushed}
+use Rattle.text.specs.WritesCode.{pushed}
 use Rattle.listing.specs.SectionCode.{block_outcome, header_from}
 use Rattle.text.proofs.WritesLaws.{pushed_on}
 

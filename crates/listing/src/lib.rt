@@ -9,10 +9,11 @@ ghost use Rattle.nitro.specs.ContainerCode.{kind_means};
 ghost use Rattle.nitro.specs.EntryCode.{check_means};
 ghost use Rattle.calls.specs.Calls.{answer};
 ghost use Rattle.calls.specs.Calls as calls;
-ghost use Rattle.util.specs.Refusals.{number_of};
+ghost use Rattle.util.specs.RefusalCode.{number_of};
 ghost use Rattle.text.specs.Text.{ascii, decimal, line};
 ghost use Rattle.listing.specs.Listing.{stamp_text, count_line, entry_lines, entries_from, total_lines, accepted_in, refused_in, samples_in, section_lines, body, listing, outcome_lines};
-ghost use Rattle.text.specs.Writes.{pushed, room};
+ghost use Rattle.text.specs.Writes.{room};
+ghost use Rattle.text.specs.WritesCode.{pushed};
 ghost use Rattle.listing.specs.SectionCode.{block_outcome, header_from, totals_with, FewTotals};
 
 use info_block::InfoBlock;

@@ -1,15 +1,13 @@
 -- What both sides have of a name, together, by what was found on each. Assumes nothing.
 use Prim.Native.Nat.{ℕ}
-use mathlib.Core.Bool.{false, true≢false}
+use mathlib.Core.Bool.{Bool, true, false, true≢false}
 use mathlib.Core.List.{List}
 use mathlib.Core.Option.{Option, none, some}
-use mathlib.Core.Path.{◌≡◌, refl, ap}
+use mathlib.Core.Path.{◌≡◌, refl, sym, ap}
 use lib.Ieee.{of_bits, binary64}
-use Rattle.std.specs.Prelude.{Ok, Err, Some, None, Option as CodeOption}
-use Rattle.std.specs.Option.{is_some, unwrap_or, option_map, MatchOption, IsSomeAnd}
+use Rattle.std.specs.Prelude.{Some, None, Option as CodeOption}
+use Rattle.std.specs.Option.{is_some, unwrap_or, option_eq, option_map, option_flatten, MatchOption, IsSomeAnd}
 use Rattle.util.specs.Reader.{answered, denied}
-use Rattle.util.specs.Refusals.{number_of}
-use Rattle.util.specs.declared.refusal.Refusal.{Refusal}
 use Rattle.material_animation.specs.declared.Shift.{Shift as CodeShift}
 use Rattle.material_animation.specs.MaterialAnimation.{Shift}
 use Rattle.material_animation.specs.MaterialAnimationCode.{shift_means}
@@ -36,26 +34,36 @@ mapped P (Some k) (Some c) h f = ap Some (f k c h)
 abbrev no_move : CodeShift
 no_move = record { u = of_bits binary64 0; v = of_bits binary64 0 }
 
-module _ (frame : ℕ) (keys : Option (List Key)) where
-  -- the pattern has such a track, without keys
-  pub empty : (m : Option Shift) (e : Refusal) → KeyIs keys frame (Err e) → denied (number_of e) ≡ joined frame m keys
+-- `same` is how two keys are compared, which is never asked here
+module _ (frame : ℕ) (keys : Option (List Key)) (same : PatternKeyframe → PatternKeyframe → Bool) where
+  -- whether the pattern has such a track, without keys
+  abbrev is_empty : CodeOption (CodeOption PatternKeyframe) → Bool
+  is_empty key = option_eq (option_eq same) key (Some None)
+
+  -- it has
+  pub empty : (m : Option Shift) (key : CodeOption (CodeOption PatternKeyframe)) → KeyIs keys frame key → is_empty key ≡ true → denied 10 ≡ joined frame m keys
   unfolding joined chosen_of
-  empty none e w = rw (w.0, w.1) refl
-  empty (some x) e w = rw (w.0, w.1) refl
+  empty none (Some None) w p = rw w refl
+  empty (some x) (Some None) w p = rw w refl
+  empty m (Some (Some k)) w p = absurd (true≢false (sym p))
+  empty m None w p = absurd (true≢false (sym p))
 
   -- it has no such track, and the other side neither
-  pub neither : (shift : CodeOption CodeShift) (key : CodeOption PatternKeyframe) → KeyIs keys frame (Ok key) → is_some shift ≡ false → is_some key ≡ false → denied 14 ≡ joined frame (found shift_means shift) keys
+  pub neither : (shift : CodeOption CodeShift) (key : CodeOption (CodeOption PatternKeyframe)) → KeyIs keys frame key → is_empty key ≡ false → is_some shift ≡ false → is_some (option_flatten key) ≡ false
+      → denied 14 ≡ joined frame (found shift_means shift) keys
   unfolding joined
-  neither None None w p q = rw w refl
-  neither (Some m) key w p q = absurd (true≢false p)
-  neither None (Some k) w p q = absurd (true≢false q)
+  neither None None w e p q = rw w refl
+  neither (Some m) key w e p q = absurd (true≢false p)
+  neither None (Some (Some k)) w e p q = absurd (true≢false q)
+  neither None (Some None) w e p q = absurd (true≢false e)
 
   -- one side has something
-  pub one : (shift : CodeOption CodeShift) (key : CodeOption PatternKeyframe) (choice : CodeOption CodeChoice) → KeyIs keys frame (Ok key) → choice ≡ option_map picked key
-      → (is_some shift ≡ false → is_some choice ≡ false → ⊥)
+  pub one : (shift : CodeOption CodeShift) (key : CodeOption (CodeOption PatternKeyframe)) (choice : CodeOption CodeChoice) → KeyIs keys frame key → is_empty key ≡ false
+      → choice ≡ option_map picked (option_flatten key) → (is_some shift ≡ false → is_some choice ≡ false → ⊥)
       → answered (material_means (record { shift = unwrap_or shift no_move; choice = choice })) ≡ joined frame (found shift_means shift) keys
   unfolding joined of_bits
-  one None None choice w p h = absurd (h refl (ap is_some p))
-  one (Some m) None choice w p h = rw (p, w) refl
-  one None (Some k) choice w p h = rw (p, w.there, some_chosen w.all frame (key_means k) w.some_key w.chosen) refl
-  one (Some m) (Some k) choice w p h = rw (p, w.there, some_chosen w.all frame (key_means k) w.some_key w.chosen) refl
+  one shift (Some None) choice w e p h = absurd (true≢false e)
+  one None None choice w e p h = absurd (h refl (ap is_some p))
+  one (Some m) None choice w e p h = rw (p, w) refl
+  one None (Some (Some k)) choice w e p h = rw (p, w.there, some_chosen w.all frame (key_means k) w.some_key w.chosen) refl
+  one (Some m) (Some (Some k)) choice w e p h = rw (p, w.there, some_chosen w.all frame (key_means k) w.some_key w.chosen) refl

@@ -17,13 +17,13 @@ use pattern::{Pattern, PatternKeyframe, find_key};
 use util::refusal::Refusal;
 
 // What both sides have of a name, together. A side that has nothing gives its default, and at least one must have something.
-fn join(
-    shift: Option<Shift>,
-    key: Result<Option<PatternKeyframe>, Refusal>,
-) -> Result<Material, Refusal>
+fn join(shift: Option<Shift>, key: Option<Option<PatternKeyframe>>) -> Result<Material, Refusal>
     ensures { (frame : ℕ) (keys : Option (List Key)) → KeyIs keys frame key → material_answer_means result ≡ joined frame (found shift_means shift) keys }
 {
-    let choice = key?.map(|k| Choice {
+    if key == Some(None) {
+        return Err(Refusal::EmptyList);
+    }
+    let choice = key.flatten().map(|k| Choice {
         texture: k.texture_idx,
         palette: k.palette_idx,
     });

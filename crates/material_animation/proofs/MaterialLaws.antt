@@ -14,7 +14,7 @@ use Rattle.util.specs.View.{word_at, view}
 use Rattle.util.specs.Fixed.{fix1_10_5}
 use Rattle.std.specs.Prelude.{Ok, Err}
 use Rattle.util.specs.declared.refusal.Refusal.{Refusal}
-use Rattle.util.specs.Refusals.{number_of as refusal_number}
+use Rattle.util.specs.RefusalCode.{number_of as refusal_number}
 use Rattle.util.specs.Reader.{Reader, done, Outcome, accepted, refused, run, bind, bytes, word, each}
 use Rattle.util.specs.ReaderCode.{tally_of}
 use Rattle.util.specs.Sums.{total}

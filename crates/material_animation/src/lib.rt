@@ -136,13 +136,14 @@ pub fn eval_uv_shift(s: &[u8], track: usize, frame: u16) -> Shift
     }
 }
 
-// A track's matrix at a frame: its shift moves the texture.
+// A track's matrix at a frame: its channels 3 and 4 move the texture.
 pub fn eval_uv_mat(s: &[u8], track: usize, frame: u16) -> Mat4
     requires { track + 40 ≤ length s.now }
     ensures { (curves : List (Curve Float)) → TrackIs s.now track curves → result ≡ uv_matrix_at curves frame }
 {
-    let shift = eval_uv_shift(s, track, frame);
-    from_translation(shift.u, shift.v, 0.0)
+    let u = sample_channel(s, track, 3, frame);
+    let v = sample_channel(s, track, 4, frame);
+    from_translation(u, v, 0.0)
 }
 
 // The shift of a name at a frame in an entry that is whole: that of the earliest track with this name, if there is one.

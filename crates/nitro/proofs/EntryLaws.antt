@@ -10,7 +10,7 @@ use native.Mathlib.Nat.{le_of_eq}
 use Rattle.std.specs.Prelude.{Result, Ok}
 use Rattle.std.specs.Result.{IsErrAnd}
 use Rattle.util.specs.declared.refusal.Refusal.{Refusal}
-use Rattle.util.specs.Refusals.{number_of}
+use Rattle.util.specs.RefusalCode.{number_of}
 use Rattle.util.specs.ReaderCode.{IsRead}
 use Rattle.util.proofs.TryLaws.{passed_on}
 use Rattle.util.specs.Reader.{done, Outcome, accepted, refused, run, bind, answered, denied}

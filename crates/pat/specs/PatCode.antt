@@ -1,7 +1,7 @@
 -- What the code of pat finds of a track. Assumes nothing.
 use Rattle.std.specs.Prelude.{ℕ, ◌+◌, ◌*◌, ◌≤◌, List, ◌≡◌, length, Result, MatchResult}
 use Rattle.util.specs.declared.refusal.Refusal.{Refusal}
-use Rattle.util.specs.Refusals.{number_of}
+use Rattle.util.specs.RefusalCode.{number_of}
 use Rattle.util.specs.Reader.{answered, denied, told}
 use Rattle.pattern.specs.PatternCode.{keys_at}
 use Rattle.nitro.specs.Container.{pat}

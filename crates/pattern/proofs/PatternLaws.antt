@@ -1,5 +1,5 @@
 -- A pattern entry's keys, its tracks and its run, by what the entry's bytes hold. Assumes nothing.
-use Prim.Native.Nat.{ℕ, zero, suc, ◌+◌, ◌-◌, ◌*◌, ◌/◌, max, ◌≤◌, ◌<◌}
+use Prim.Native.Nat.{ℕ, zero, suc, ◌+◌, ◌-◌, ◌*◌, ◌/◌, min, max, ◌≤◌, ◌<◌}
 use mathlib.Core.Bool.{Bool, true, false, ◌&&◌, and-true, and_assoc}
 use mathlib.Core.List.{List, [], ◌∷◌, ◌++◌}
 use mathlib.Core.Logic.{⊎_elim}
@@ -7,13 +7,13 @@ use mathlib.Core.Path.{◌≡◌, refl, sym, ap, ◌∙◌}
 use native.Mathlib.Nat.{add-zero}
 use native.Mathlib.Numerals.{add-one}
 use native.Mathlib.Omega.{arith}
-use borrow.Author.Tests.{lt-ltb, le-ltb}
+use borrow.Author.Tests.{lt-ltb, le-ltb, ltb-true, ltb-false}
 use lib.Dec.{ltb}
 use lib.ListN.{length, take, drop, get_or, drop_of_length-le}
 use lib.Seq.{drop-cons}
 use Rattle.std.specs.Prelude.{Ok, Err}
 use Rattle.util.specs.declared.refusal.Refusal.{Refusal}
-use Rattle.util.specs.Refusals.{number_of}
+use Rattle.util.specs.RefusalCode.{number_of}
 use Rattle.util.specs.Bits.{bits}
 use Rattle.util.specs.View.{word_at}
 use Rattle.util.specs.Reader.{Reader, done, Outcome, accepted, refused, run, bind, each, unless}
@@ -41,6 +41,14 @@ key_at s p = record { frame = word_at 2 s p; texture = word_at 1 s (p + 2); pale
 
 pub key_there : (s : List ℕ) (p : ℕ) → key_of (take 4 (drop p s)) ≡ key_at s p
 key_there s p = rw (word_part 2 4 p 0 s (omega arith), word_part 1 4 p 2 s (omega arith), word_part 1 4 p 3 s (omega arith), add-zero p) refl
+
+-- a word of three bytes is below `count` times 65536, or past a byte's 256 times, exactly if its highest byte is below `count`
+pub word_below : (word count : ℕ) → word < 16777216 → ltb word (65536 * min count 256) ≡ ltb (word / 65536) count
+word_below word count h = go (ltb (word / 65536) count) refl
+  where
+    go : (b : Bool) → b ≡ ltb (word / 65536) count → ltb word (65536 * min count 256) ≡ b
+    go true e = let l = ltb-true (word / 65536) count (sym e) in lt-ltb word (65536 * min count 256) (omega arith)
+    go false e = let l = ltb-false (word / 65536) count (sym e) in le-ltb word (65536 * min count 256) (omega arith)
 
 -- a key read as one word: the texture is the highest of its three low bytes, the palette of its three high ones
 pub key_word : (s : List ℕ) (p : ℕ) → Bytes s → p + 4 ≤ length s → (textures palettes : ℕ)

@@ -1,8 +1,6 @@
 -- What the code of lib.rt answers: where the lists of an entry stand. Assumes nothing.
-use Rattle.std.specs.Prelude.{ℕ, ◌+◌, ◌*◌, ◌^◌, ◌≤◌, ◌<◌, List, [], ◌≡◌, length, drop, Option as CodeOption, Some, None, Result, Ok, Err}
+use Rattle.std.specs.Prelude.{ℕ, ◌+◌, ◌*◌, ◌^◌, ◌≤◌, ◌<◌, List, [], ◌≡◌, length, drop, Option as CodeOption, Some, None}
 use Rattle.std.proofs.Math.Option.{Option, none, some}
-use Rattle.util.specs.declared.refusal.Refusal.{Refusal}
-use Rattle.util.specs.Refusals.{number_of}
 use Rattle.util.specs.View.{word_at, view}
 use Rattle.util.specs.Reader.{accepted, run, each}
 use Rattle.util.specs.Sums.{total}
@@ -53,8 +51,8 @@ pub record Holds (keys : Option (List Key)) (frame : ℕ) (k : PatternKeyframe) 
   pub some_key : 1 ≤ length all
   pub chosen : (default : Key) → key_means k ≡ choice all default frame
 
--- .. or there is no track of the name; or it has no keys, which is refused
-abbrev pub KeyIs : Option (List Key) → ℕ → Result (CodeOption PatternKeyframe) Refusal → Type 0
-KeyIs keys frame (Ok (Some k)) = Holds keys frame k
-KeyIs keys frame (Ok None) = keys ≡ none
-KeyIs keys frame (Err e) = (keys ≡ some []) × (number_of e ≡ 10)
+-- .. or the track has no keys; or there is no track of the name
+abbrev pub KeyIs : Option (List Key) → ℕ → CodeOption (CodeOption PatternKeyframe) → Type 0
+KeyIs keys frame (Some (Some k)) = Holds keys frame k
+KeyIs keys frame (Some None) = keys ≡ some []
+KeyIs keys frame None = keys ≡ none

@@ -212,23 +212,21 @@ pub fn sample(s: &[u8], keys: ItemList, frame: u16) -> PatternKeyframe
     key_at(s, keys.place, first_later(s, keys, frame).saturating_sub(1))
 }
 
-// What a name chooses at a frame in an entry that is whole, by the earliest track with this name: the key that holds, if there is such a
-// track; it may have no keys.
+// What a name chooses at a frame in an entry that is whole, by the earliest track with this name: none where there is no such track, and of a
+// track without keys no key.
 pub fn find_key(
     s: &[u8],
     a: Pattern,
     name: &[u8; 16],
     frame: u16,
-) -> Result<Option<PatternKeyframe>, Refusal>
+) -> Option<Option<PatternKeyframe>>
     requires { WholePattern s.now a }
     ensures { (w : WholePattern s.now a) → KeyIs (keys_of name.now w.held) frame result }
 {
-    let Some(t) = find_name(s, a.block.names, a.block.count, name) else {
-        return Ok(None);
-    };
+    let t = find_name(s, a.block.names, a.block.count, name)?;
     let keys = read_track_keys(s, a.block.datums + 8 * t);
     if keys.count == 0 {
-        return Err(Refusal::EmptyList);
+        return Some(None);
     }
-    Ok(Some(sample(s, keys, frame)))
+    Some(Some(sample(s, keys, frame)))
 }

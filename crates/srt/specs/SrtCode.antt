@@ -1,7 +1,7 @@
 -- What the code of srt finds of a track. Assumes nothing.
 use Rattle.std.specs.Prelude.{ℕ, ◌+◌, ◌≤◌, List, ◌≡◌, length, drop, Float, Result, MatchResult}
 use Rattle.util.specs.declared.refusal.Refusal.{Refusal}
-use Rattle.util.specs.Refusals.{number_of}
+use Rattle.util.specs.RefusalCode.{number_of}
 use Rattle.util.specs.Reader.{denied, told}
 use Rattle.curve.specs.Curve.{Curve}
 use Rattle.material_animation.specs.MaterialAnimationCode.{TrackIs}

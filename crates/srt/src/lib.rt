@@ -47,7 +47,8 @@ fn find_track(s: &[u8], entry: usize, track: usize) -> Result<TrackAt, Refusal>
     })
 }
 
-// The matrix of a track at a frame.
+// The matrix of a track at a frame. Put into both its callers, so that the matrix is not handed on through memory.
+#[inline(always)]
 pub fn uv_matrix(s: &[u8], entry: usize, track: usize, frame: u16) -> Result<Mat4, Refusal>
     ensures { matrix_answer_means result ≡ told (answer (on srt entry (of_material track (uv_matrix frame))) s.now) }
 {

@@ -12,7 +12,8 @@ use Rattle.std.proofs.lemmas.List.{length-take}
 use Rattle.util.proofs.WritesLaws.{sets-append}
 use Rattle.text.specs.declared.Text.{Text}
 use Rattle.text.specs.Text.{digit, digits}
-use Rattle.text.specs.Writes.{room, kept, pushed}
+use Rattle.text.specs.Writes.{room}
+use Rattle.text.specs.WritesCode.{kept, pushed}
 
 take_two : (n : ℕ) (x y : List ℕ) → take n (x ++ y) ≡ take n x ++ take (n - length x) y
 take_two zero x y = let e : 0 - length x ≡ 0 = omega arith in rw e refl

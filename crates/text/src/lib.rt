@@ -3,7 +3,8 @@
 
 ghost use Rattle.std.specs.Prelude.{◌≡◌, length};
 ghost use Rattle.text.specs.Text.{digits, decimal, hex, line};
-ghost use Rattle.text.specs.Writes.{pushed, keyed};
+ghost use Rattle.text.specs.Writes.{keyed};
+ghost use Rattle.text.specs.WritesCode.{pushed};
 
 use util::view::put_bytes;
 

@@ -7,7 +7,7 @@ use native.Mathlib.Omega.{arith}
 use borrow.Author.Tests.{lt-ltb, le-ltb}
 use lib.ListN.{length, take, drop, get_or}
 use Rattle.util.specs.Bits.{bits}
-use Rattle.util.specs.Refusals.{number_of}
+use Rattle.util.specs.RefusalCode.{number_of}
 use Rattle.util.specs.Fixed.{fix1_3_12, fixed}
 use Rattle.util.specs.View.{little, word_at, view}
 use Rattle.std.specs.Prelude.{Result, Ok, Err, IsOk}

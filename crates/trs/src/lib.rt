@@ -5,12 +5,12 @@ ghost use Rattle.std.specs.Prelude.{◌≡◌, map, ◌+◌, ◌<◌, ◌≤◌,
 ghost use Rattle.util.specs.Reader.{answered};
 ghost use Rattle.util.specs.ReaderCode.{verdict};
 ghost use Rattle.curve.specs.Curve.{pair_at, recorded, mix_mat, sample_at};
-ghost use Rattle.curve.specs.CurveCode.{InsideOf, record_means};
+ghost use Rattle.curve.specs.CurveCode.{InsideOf, pair_means, record_means};
 ghost use Rattle.matrix.specs.declared.Mat3 as mat3;
 ghost use Rattle.matrix.specs.Matrix.{identity3};
 ghost use Rattle.animation.specs.Animation.{on_axis, scale, pivot_of, basis_of, axes_at, matrix_at};
 ghost use Rattle.animation.specs.AnimationCode.{WholeAnimation, matrix_for, reference_end, references, rotation_curve, triple_curves, axis_curves, object_curves, InsideTriple, InsideAxes, InsideReferences, InsideRotation, InsideObject};
-ghost use Rattle.trs.specs.TrsCode.{ObjectStands, AxisIs, axes_in, curve_means};
+ghost use Rattle.trs.specs.TrsCode.{ObjectStands, AxisIs, axes_in};
 
 use animation::{
     Animation, AxisCurves, Referred, RotationCurve, TRSCurves, Tables, read_object, refer,
@@ -57,7 +57,7 @@ pub fn record_axis<V: Value>(
 ) -> Result<CurveRecord<V>, Refusal>
     requires inside { InsideOf V.numbers s.now a.x × InsideOf V.numbers s.now a.y × InsideOf V.numbers s.now a.z }
     requires entry { entry + length s.now < 18446744073709551616 }
-    ensures { curve_means result ≡ on_axis (axes_in V.reading s.now a) axis (λ c. answered (recorded entry c)) }
+    ensures { verdict (record_means V.means) result ≡ on_axis (axes_in V.reading s.now a) axis (λ c. answered (recorded entry c)) }
 {
     let c = axis_curve(a, axis)?;
     Ok(record(s, c, entry))
@@ -66,7 +66,7 @@ pub fn record_axis<V: Value>(
 // One value of an axis of a scale.
 pub fn scale_value(s: &[u8], a: AxisCurves, axis: usize, index: usize) -> Result<Pair, Refusal>
     requires { InsideTriple scale s.now a }
-    ensures { verdict (λ v. v) result ≡ on_axis (triple_curves scale s.now a) axis (λ c. pair_at c index) }
+    ensures { verdict pair_means result ≡ on_axis (triple_curves scale s.now a) axis (λ c. pair_at c index) }
 {
     pair_at(s, axis_curve(a, axis)?, index)
 }

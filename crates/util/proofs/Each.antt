@@ -11,7 +11,7 @@ use Rattle.util.specs.Reader.{Reader, done, Outcome, accepted, refused, run, bin
 use Rattle.std.specs.Prelude.{Result, Ok, Err}
 use Rattle.util.specs.declared.refusal.Refusal.{Refusal}
 use Rattle.util.specs.declared.cur.Tally.{Tally}
-use Rattle.util.specs.Refusals.{number_of}
+use Rattle.util.specs.RefusalCode.{number_of}
 use Rattle.util.specs.ReaderCode.{outcome, tallied, reach_of, tally_of, Follows}
 use Rattle.util.specs.Sums.{total}
 use Rattle.util.specs.View.{view}

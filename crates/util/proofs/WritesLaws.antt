@@ -1,13 +1,12 @@
 -- Items written into a list from a place onward. Assumes nothing.
-use Prim.Native.Nat.{ℕ, suc, ◌+◌, ◌-◌, ◌≤◌}
+use Prim.Native.Nat.{ℕ, suc, ◌+◌, ◌-◌, ◌≤◌, ◌<◌}
 use mathlib.Core.List.{List, [], ◌∷◌, ◌++◌, append-nil}
 use mathlib.Core.Path.{◌≡◌, refl, sym, ap, ◌∙◌}
 use native.Mathlib.Nat.{le_refl, add-zero, suc-add, add-suc}
+use native.Mathlib.Numerals.{add-one}
 use native.Mathlib.Omega.{arith}
-use Rattle.std.proofs.lemmas.List.{append_assoc}
-use borrow.Rule.Slice.PartMut.{put_mid}
-use lib.ListN.{length, set, take, drop, length-drop, take-append-drop, drop_of_length-le}
-use lib.Seq.{sets, sets-eq, drop-drop, take_all, length-take-le}
+use lib.ListN.{length, set, take, drop, get_or, length-drop, take-append-drop, drop_of_length-le}
+use lib.Seq.{sets, sets-eq, drop-cons, take_all, length-take-le}
 
 module _ {A : Type 0} where
   -- writing x and then y is writing x ++ y
@@ -45,13 +44,20 @@ module _ {A : Type 0} where
       ∙ ap (λ (t : List A). sets t (length (take a xs) + 0) vs) (take-append-drop a xs)
       ∙ ap (λ (k : ℕ). sets xs k vs) (add-zero (length (take a xs)) ∙ length-take-le a xs h)
 
+  -- item i of b is written: the others are still to do
+  pub item_written : (b l : List A) (at i : ℕ) (x d : A) → i < length b → x ≡ get_or b i d → sets l (at + i) (drop i b) ≡ sets (set l (at + i) x) (at + (i + 1)) (drop (i + 1) b)
+  item_written b l at i x d h e =
+      rw (drop-cons b i d h, e, add-one i) (ap (λ (k : ℕ). sets (set l (at + i) (get_or b i d)) k (drop (suc i) b)) (next at i))
+    where
+      next : (at i : ℕ) → suc (at + i) ≡ at + suc i
+      next at i = omega arith
+
+  pub items_written : (b l : List A) (at i : ℕ) → length b ≤ i → l ≡ sets l (at + i) (drop i b)
+  items_written b l at i h = rw (drop_of_length-le b h) refl
+
   -- what was written from the start on, and the rest as it was
   pub sets_front : (l b : List A) → length b ≤ length l → sets l 0 b ≡ b ++ drop (length b) l
   sets_front l b h = sets-eq b l 0 (omega arith) ∙ ap (λ (k : ℕ). b ++ drop k l) (zero_plus (length b))
     where
       zero_plus : (n : ℕ) → 0 + n ≡ n
       zero_plus n = omega arith
-
--- a part copied in, as `copy_from_slice` leaves it
-pub copied : {A : Type 0} (a k : ℕ) (xs ys : List A) → a + length ys ≤ length xs → k ≡ length ys → put_mid a k xs ys ≡ sets xs a ys
-copied {A} a k xs ys h e = rw e (ap (λ (t : List A). take a xs ++ (ys ++ t)) (drop-drop (length ys) a xs) ∙ sym (append_assoc (take a xs) ys (drop (a + length ys) xs))) ∙ sym (sets-eq ys xs a h)

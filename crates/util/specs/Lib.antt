@@ -1,5 +1,5 @@
 pub mod View
-pub mod Refusals
+pub mod RefusalCode
 pub mod Reader
 pub mod ReaderCode
 pub mod Place

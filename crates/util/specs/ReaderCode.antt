@@ -2,7 +2,7 @@
 use Rattle.std.specs.Prelude.{ℕ, ◌+◌, ◌<◌, List, ◌≡◌, Result, Ok, Err, IfOk}
 use Rattle.util.specs.declared.refusal.Refusal.{Refusal}
 use Rattle.util.specs.declared.cur.Tally.{Tally}
-use Rattle.util.specs.Refusals.{number_of}
+use Rattle.util.specs.RefusalCode.{number_of}
 use Rattle.util.specs.Reader.{Reader, Outcome, accepted, refused, Verdict, answered, denied, run}
 
 module _ {X A : Type 0} where

@@ -51,6 +51,9 @@ pub trait Format {
 
     const FRACTION: u32;
 
+    // all bits, the sign's too
+    const BITS: u32;
+
     const LEAST: f64;
 
     const GREATEST: f64;
@@ -59,11 +62,15 @@ pub trait Format {
 
     ghost FRACTION: { ℕ };
 
+    ghost BITS: { ℕ };
+
     ghost LEAST: { Float };
 
     ghost GREATEST: { Float };
 
     ghost fits: { ltb (WHOLE + FRACTION) 32 ≡ true };
+
+    ghost all_bits: { BITS ≡ 1 + (WHOLE + FRACTION) };
 
     ghost is_least: { LEAST ≡ least (fix WHOLE FRACTION) };
 
@@ -83,17 +90,23 @@ pub trait Format {
     final fn read(x: u32) -> f64
         ensures { result ≡ fixed (fix WHOLE FRACTION) x }
     {
-        number(x, 1 + Self::WHOLE + Self::FRACTION, Self::FRACTION)
+        number(x, Self::BITS, Self::FRACTION)
     }
 }
 
 #[derive(Clone, Copy)]
 pub struct Fix1_19_12;
 
+impl Fix1_19_12 {
+    pub const SIGN: u32 = 1;
+}
+
 impl Format for Fix1_19_12 {
     const WHOLE: u32 = 19;
 
     const FRACTION: u32 = 12;
+
+    const BITS: u32 = Self::SIGN + Self::WHOLE + Self::FRACTION;
 
     const LEAST: f64 = -524288.0;
 
@@ -103,11 +116,15 @@ impl Format for Fix1_19_12 {
 
     ghost FRACTION = { 12 };
 
+    ghost BITS = { 32 };
+
     ghost LEAST = { least fix1_19_12 };
 
     ghost GREATEST = { greatest fix1_19_12 };
 
     ghost fits = { refl };
+
+    ghost all_bits = { refl };
 
     ghost is_least = { refl };
 
@@ -117,10 +134,16 @@ impl Format for Fix1_19_12 {
 #[derive(Clone, Copy)]
 pub struct Fix1_3_12;
 
+impl Fix1_3_12 {
+    pub const SIGN: u32 = 1;
+}
+
 impl Format for Fix1_3_12 {
     const WHOLE: u32 = 3;
 
     const FRACTION: u32 = 12;
+
+    const BITS: u32 = Self::SIGN + Self::WHOLE + Self::FRACTION;
 
     const LEAST: f64 = -8.0;
 
@@ -130,11 +153,15 @@ impl Format for Fix1_3_12 {
 
     ghost FRACTION = { 12 };
 
+    ghost BITS = { 16 };
+
     ghost LEAST = { least fix1_3_12 };
 
     ghost GREATEST = { greatest fix1_3_12 };
 
     ghost fits = { refl };
+
+    ghost all_bits = { refl };
 
     ghost is_least = { refl };
 
@@ -144,10 +171,16 @@ impl Format for Fix1_3_12 {
 #[derive(Clone, Copy)]
 pub struct Fix1_10_5;
 
+impl Fix1_10_5 {
+    pub const SIGN: u32 = 1;
+}
+
 impl Format for Fix1_10_5 {
     const WHOLE: u32 = 10;
 
     const FRACTION: u32 = 5;
+
+    const BITS: u32 = Self::SIGN + Self::WHOLE + Self::FRACTION;
 
     const LEAST: f64 = -1024.0;
 
@@ -157,11 +190,15 @@ impl Format for Fix1_10_5 {
 
     ghost FRACTION = { 5 };
 
+    ghost BITS = { 16 };
+
     ghost LEAST = { least fix1_10_5 };
 
     ghost GREATEST = { greatest fix1_10_5 };
 
     ghost fits = { refl };
+
+    ghost all_bits = { refl };
 
     ghost is_least = { refl };
 
@@ -171,10 +208,16 @@ impl Format for Fix1_10_5 {
 #[derive(Clone, Copy)]
 pub struct Fix1_0_12;
 
+impl Fix1_0_12 {
+    pub const SIGN: u32 = 1;
+}
+
 impl Format for Fix1_0_12 {
     const WHOLE: u32 = 0;
 
     const FRACTION: u32 = 12;
+
+    const BITS: u32 = Self::SIGN + Self::WHOLE + Self::FRACTION;
 
     const LEAST: f64 = -1.0;
 
@@ -184,11 +227,15 @@ impl Format for Fix1_0_12 {
 
     ghost FRACTION = { 12 };
 
+    ghost BITS = { 13 };
+
     ghost LEAST = { least fix1_0_12 };
 
     ghost GREATEST = { greatest fix1_0_12 };
 
     ghost fits = { refl };
+
+    ghost all_bits = { refl };
 
     ghost is_least = { refl };
 

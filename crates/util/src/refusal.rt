@@ -1,6 +1,6 @@
 // Why something is refused.
 ghost use Rattle.std.specs.Prelude.{◌≡◌};
-ghost use Rattle.util.specs.Refusals.{number_of};
+ghost use Rattle.util.specs.RefusalCode.{number_of};
 
 // The reasons, with document 01's numbers.
 #[derive(Clone, Copy, Debug, PartialEq, Eq)]

@@ -6,8 +6,7 @@ use Rattle.util.specs.View.{word_at}
 use Rattle.util.specs.Reader.{Outcome, accepted, refused, Verdict, answered, denied, number}
 use Rattle.matrix.specs.declared.Mat3.{Mat3}
 use Rattle.info_block.specs.Name.{Name}
-use Rattle.curve.specs.declared.Pair.{Pair}
-use Rattle.curve.specs.Curve.{Recorded, no_curve, always, listed}
+use Rattle.curve.specs.Curve.{Pair, Recorded, no_curve, always, listed}
 use Rattle.nitro.specs.Container.{Kind, jnt, srt, pat, EntryRecord}
 use Rattle.gltf.specs.Curve.{Span, no_span, span, Resampled}
 use Rattle.pose.specs.Pose.{Posed}

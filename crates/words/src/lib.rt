@@ -6,8 +6,10 @@ ghost use Rattle.std.proofs.lemmas.List.Edits.{sets};
 ghost use Rattle.util.specs.Reader.{told};
 ghost use Rattle.util.specs.ReaderCode.{verdict};
 ghost use Rattle.matrix.specs.Matrix.{floats_of};
+ghost use Rattle.matrix.specs.declared.Mat3 as mat3;
 ghost use Rattle.curve.specs.Curve.{listed};
-ghost use Rattle.curve.specs.CurveCode.{list_record_means, record_means};
+ghost use Rattle.curve.specs.Curve as spec;
+ghost use Rattle.curve.specs.CurveCode.{list_record_means, pair_means, record_means};
 ghost use Rattle.info_block.specs.NameCode.{name_means};
 ghost use Rattle.nitro.specs.ContainerCode.{stamp_means};
 ghost use Rattle.nitro.specs.EntryCode.{check_means};
@@ -98,13 +100,22 @@ pub fn put_count(w: Result<usize, Refusal>, out: &mut [u64; 1]) -> u32
 
 // What a curve has for a constant, as N floats.
 pub trait Floats<const N: usize> {
-    ghost floats: { Self → List Float };
+    // what it stands for, and its floats
+    ghost Meant: { Type 0 };
+
+    ghost means: { Self → Meant };
+
+    ghost floats: { Meant → List Float };
 
     fn put(self, out: &mut [f64; N])
-        ensures { out.new ≡ sets out.old 0 (floats self) };
+        ensures { out.new ≡ sets out.old 0 (floats (means self)) };
 }
 
 impl Floats<1> for f64 {
+    ghost Meant = { Float };
+
+    ghost means = { λ v. v };
+
     ghost floats = { one_float };
 
     fn put(self, out: &mut [f64; 1]) {
@@ -114,6 +125,10 @@ impl Floats<1> for f64 {
 
 // The two numbers of a scale's value.
 impl Floats<2> for Pair {
+    ghost Meant = { spec.Pair };
+
+    ghost means = { pair_means };
+
     ghost floats = { two_floats };
 
     fn put(self, out: &mut [f64; 2]) {
@@ -124,6 +139,10 @@ impl Floats<2> for Pair {
 
 // Column by column.
 impl Floats<9> for Mat3 {
+    ghost Meant = { mat3.Mat3 };
+
+    ghost means = { λ m. m };
+
     ghost floats = { nine_floats };
 
     fn put(self, out: &mut [f64; 9]) {
@@ -160,7 +179,7 @@ fn put_whole<T: Floats<N>, const N: usize>(
     out: &mut [u64; CURVE_WORDS],
     value: &mut [f64; N],
 )
-    ensures { (out.new ≡ sets out.old 0 (curve_words (record_means (λ v. v) r))) × (value.new ≡ sets value.old 0 (curve_floats T.floats (record_means (λ v. v) r))) }
+    ensures { (out.new ≡ sets out.old 0 (curve_words (record_means T.means r))) × (value.new ≡ sets value.old 0 (curve_floats T.floats (record_means T.means r))) }
 {
     match r {
         CurveRecord::None => {
@@ -180,7 +199,7 @@ pub fn put_curve<T: Floats<N>, const N: usize>(
     out: &mut [u64; CURVE_WORDS],
     value: &mut [f64; N],
 ) -> u32
-    ensures { Writes curve_words (verdict (record_means (λ v. v)) c) result out.old out.new × Writes (curve_floats T.floats) (verdict (record_means (λ v. v)) c) result value.old value.new }
+    ensures { Writes curve_words (verdict (record_means T.means) c) result out.old out.new × Writes (curve_floats T.floats) (verdict (record_means T.means) c) result value.old value.new }
 {
     match c {
         Err(e) => e.into(),
@@ -193,7 +212,7 @@ pub fn put_curve<T: Floats<N>, const N: usize>(
 
 // One value of a scale.
 pub fn put_value(a: Result<Pair, Refusal>, out: &mut [f64; 2]) -> u32
-    ensures { Writes two_floats (verdict (λ v. v) a) result out.old out.new }
+    ensures { Writes two_floats (verdict pair_means a) result out.old out.new }
 {
     match a {
         Err(e) => e.into(),

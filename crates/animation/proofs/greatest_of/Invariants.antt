@@ -1,3 +1,4 @@
+use Prim.Native.Nat.{◌-◌}
 use Rattle.animation.proofs.GreatestLaws.{Left}
 use Rattle.animation.proofs.greatest_of.Given as goal
 
@@ -5,3 +6,6 @@ use Rattle.animation.proofs.greatest_of.Given as goal
 -- Assumes nothing.
 abbrev pub invariant-loop-i : goal.invariant-loop-i
 invariant-loop-i l = Left l.s l.list l.n l.i l.plain l.turned
+
+abbrev pub decreases-loop-i : goal.decreases-loop-i
+decreases-loop-i l = l.n - l.i

@@ -2,7 +2,7 @@ use Rattle.std.proofs.Common.{rules}
 use Prim.Native.Nat.{ℕ}
 use mathlib.Core.Path.{◌≡◌, ◌∙◌}
 use native.Mathlib.Omega.{arith}
-use Rattle.text.specs.Writes.{pushed}
+use Rattle.text.specs.WritesCode.{pushed}
 use Rattle.text.proofs.WritesLaws.{all_of_it}
 use Rattle.listing.specs.Listing.{listing}
 use Rattle.listing.proofs.Fits.{listing_fits}

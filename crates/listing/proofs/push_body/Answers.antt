@@ -1,7 +1,7 @@
 use mathlib.Core.Path.{ap, ◌∙◌}
 use Rattle.nitro.specs.ContainerCode.{kind_means, stamp_means}
 use Rattle.nitro.proofs.ContainerLaws.{stamp_of_lem}
-use Rattle.text.specs.Writes.{pushed}
+use Rattle.text.specs.WritesCode.{pushed}
 use Rattle.listing.proofs.SectionLaws.{too_long, no_stamp, with_stamp}
 use Rattle.listing.proofs.push_body.Goals as goal
 

@@ -3,7 +3,7 @@ use mathlib.Core.Path.{◌≡◌}
 use lib.ListN.{take, drop}
 use Rattle.util.specs.View.{view}
 use Rattle.nitro.specs.ContainerCode.{kind_means}
-use Rattle.text.specs.Writes.{pushed}
+use Rattle.text.specs.WritesCode.{pushed}
 use Rattle.listing.specs.Listing.{entries_from}
 use Rattle.listing.proofs.TotalsLaws.{totals_in}
 use Rattle.listing.proofs.push_entries.Given as goal

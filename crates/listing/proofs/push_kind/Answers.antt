@@ -1,7 +1,7 @@
 use mathlib.Core.Path.{ap, ◌∙◌}
 use Rattle.util.proofs.ReadsLaws.{known}
 use Rattle.nitro.specs.ContainerCode.{kind_means}
-use Rattle.text.specs.Writes.{pushed}
+use Rattle.text.specs.WritesCode.{pushed}
 use Rattle.listing.proofs.SectionLaws.{block_refused, block_whole}
 use Rattle.listing.proofs.push_kind.Goals as goal
 

@@ -3,7 +3,7 @@ use Rattle.std.specs.Prelude.{ℕ, Result, Err}
 use Rattle.std.specs.Option.{ok_or}
 use Rattle.util.specs.declared.refusal.Refusal.{Refusal}
 use Rattle.util.specs.declared.refusal.Refusal.TheVariants.{NothingPicked}
-use Rattle.util.specs.Refusals.{number_of}
+use Rattle.util.specs.RefusalCode.{number_of}
 use Rattle.util.specs.Reader.{denied}
 use Rattle.util.proofs.TryLaws.{passed_on}
 use Rattle.nitro.specs.ContainerCode.{kind_means}

@@ -1,7 +1,7 @@
 use mathlib.Core.Path.{subst}
 use Rattle.std.specs.Prelude.{Ok, Err, ◌≡◌}
 use Rattle.util.specs.Reader.{refused, run}
-use Rattle.util.specs.Refusals.{number_of}
+use Rattle.util.specs.RefusalCode.{number_of}
 use Rattle.util.proofs.TryLaws.{stopped}
 use Rattle.nitro.specs.Container.{value}
 use Rattle.nitro.specs.EntryCode.{OpenReads}

@@ -2,7 +2,8 @@ use Prim.Native.Nat.{ℕ, ◌-◌}
 use mathlib.Core.Path.{◌≡◌, refl, sym, ap, ◌∙◌}
 use lib.ListN.{take}
 use Rattle.std.proofs.lemmas.List.{take_min}
-use Rattle.text.specs.Writes.{room, kept, pushed}
+use Rattle.text.specs.Writes.{room}
+use Rattle.text.specs.WritesCode.{kept, pushed}
 use Rattle.text.proofs.WritesLaws.{no_room}
 use Rattle.text.proofs.Text.push.Goals as goal
 

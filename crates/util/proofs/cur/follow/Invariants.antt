@@ -1,4 +1,4 @@
-use Prim.Native.Nat.{ℕ, ◌*◌, ◌^◌, ◌≤◌}
+use Prim.Native.Nat.{ℕ, ◌-◌, ◌*◌, ◌^◌, ◌≤◌}
 use mathlib.Core.Path.{◌≡◌}
 use Rattle.util.specs.Reader.{Outcome}
 use Rattle.util.specs.ReaderCode.{Follows}
@@ -8,3 +8,6 @@ use Rattle.util.proofs.cur.follow.Given as goal
 abbrev pub invariant-loop-i : goal.invariant-loop-i
 invariant-loop-i g l =
     (l.all.samples ≤ 2 ^ 40 * l.i) × ((left : ℕ → ℕ → ℕ → Outcome ℕ) → Follows (goal.F-post g l.one) l.count left → left l.i l.all.reach l.all.samples ≡ left 0 l.reach 0)
+
+abbrev pub decreases-loop-i : goal.decreases-loop-i
+decreases-loop-i g l = l.count - l.i
