@@ -101,6 +101,10 @@ pub record Gives {A : Type 0} (mixed : A → A → Float → A) (post : ℕ → 
 abbrev pub pair_means : CodePair → Pair
 pair_means v = record { first = v.first; second = v.second }
 
+-- the struct that stands for a pair
+abbrev pub pair_as : Pair → CodePair
+pair_as v = record { first = v.first; second = v.second }
+
 module _ {T A : Type 0} where
   -- a curve's record, by the cases of the code's enum: `means` says what its constant stands for
   abbrev pub record_means : (T → A) → CurveRecord T → Recorded A

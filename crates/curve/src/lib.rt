@@ -6,7 +6,7 @@ ghost use Rattle.util.specs.Fixed.{Fix, fix1_19_12};
 ghost use Rattle.util.specs.ReaderCode.{verdict};
 ghost use Rattle.util.specs.Within.{Under};
 ghost use Rattle.curve.specs.Curve.{samples, sample_count, counted_from, index, mix, mix_col, mix_mat, sample_at, number_bytes, number_of, pair_of, pair_at, recorded};
-ghost use Rattle.curve.specs.CurveCode.{spot_at, on_value, SpotIn, format_means, list_means, list_record_means, Framed, Gives, curve_in, scalar_curve, pair_curve, Inside, InsideOf, pair_means, record_means};
+ghost use Rattle.curve.specs.CurveCode.{spot_at, on_value, SpotIn, format_means, list_means, list_record_means, Framed, Gives, curve_in, scalar_curve, pair_curve, Inside, InsideOf, pair_means, pair_as, record_means};
 ghost use Rattle.curve.specs.Curve as spec;
 
 use matrix::{Col3, Mat3};
@@ -63,8 +63,8 @@ pub enum CurveRecord<T> {
     List(ListRecord),
 }
 
-// What some bytes of a section are read as.
-pub trait Value {
+// What some bytes of a section are read as, said by what it stands for.
+pub trait MeantValue {
     // what it stands for
     ghost Meant: { Type 0 };
 
@@ -80,6 +80,20 @@ pub trait Value {
     fn read(s: &[u8], place: usize, number: Number) -> Self
         requires { place + number_bytes (format_means number) * numbers ≤ length s.now }
         ensures { means result ≡ reading (format_means number) (drop place s.now) };
+}
+
+// .. and said by the value itself. These crates go by the trait above; this one is for callers that take a value as it is.
+pub trait Value {
+    // how many numbers it has
+    ghost numbers: { ℕ };
+
+    // .. and what it is, of its bytes
+    ghost reading: { Fix → List ℕ → Self };
+
+    // The value at a place.
+    fn read(s: &[u8], place: usize, number: Number) -> Self
+        requires { place + number_bytes (format_means number) * numbers ≤ length s.now }
+        ensures { result ≡ reading (format_means number) (drop place s.now) };
 }
 
 // What can be mixed.
@@ -233,7 +247,7 @@ fn number_bytes(number: Number) -> usize
     }
 }
 
-impl Value for f64 {
+impl MeantValue for f64 {
     ghost Meant = { Float };
 
     ghost means = { λ v. v };
@@ -251,7 +265,7 @@ impl Value for f64 {
     }
 }
 
-impl Value for Pair {
+impl MeantValue for Pair {
     ghost Meant = { spec.Pair };
 
     ghost means = { pair_means };
@@ -262,14 +276,34 @@ impl Value for Pair {
 
     fn read(s: &[u8], place: usize, number: Number) -> Pair {
         let next = place + number_bytes(number);
-        let first = f64::read(s, place, number);
-        let second = f64::read(s, next, number);
+        let first = <f64 as MeantValue>::read(s, place, number);
+        let second = <f64 as MeantValue>::read(s, next, number);
         Pair { first, second }
     }
 }
 
+impl Value for f64 {
+    ghost numbers = { 1 };
+
+    ghost reading = { number_of };
+
+    fn read(s: &[u8], place: usize, number: Number) -> f64 {
+        <f64 as MeantValue>::read(s, place, number)
+    }
+}
+
+impl Value for Pair {
+    ghost numbers = { 2 };
+
+    ghost reading = { λ f bs. pair_as (pair_of f bs) };
+
+    fn read(s: &[u8], place: usize, number: Number) -> Pair {
+        <Pair as MeantValue>::read(s, place, number)
+    }
+}
+
 // A constant.
-fn constant<V: Value>(s: &[u8], place: usize) -> V
+fn constant<V: MeantValue>(s: &[u8], place: usize) -> V
     requires { place + 4 * V.numbers ≤ length s.now }
     ensures { V.means result ≡ V.reading fix1_19_12 (drop place s.now) }
 {
@@ -277,7 +311,7 @@ fn constant<V: Value>(s: &[u8], place: usize) -> V
 }
 
 // Value k of a list.
-fn list_value<V: Value>(s: &[u8], l: SampleList, number: Number, k: usize) -> V
+fn list_value<V: MeantValue>(s: &[u8], l: SampleList, number: Number, k: usize) -> V
     requires { InsideOf V.numbers s.now (ScalarCurve.Samples l number) × (k < l.length) }
     ensures { V.means result ≡ V.reading (format_means number) (drop (l.place + l.size * k) s.now) }
 {
@@ -352,7 +386,7 @@ pub fn pair_at(s: &[u8], c: ScalarCurve, index: usize) -> Result<Pair, Refusal>
 }
 
 // A curve's record, in an entry that stands at `entry`: the slice is the section from there on.
-pub fn record<V: Value>(s: &[u8], c: ScalarCurve, entry: usize) -> CurveRecord<V>
+pub fn record<V: MeantValue>(s: &[u8], c: ScalarCurve, entry: usize) -> CurveRecord<V>
     requires { InsideOf V.numbers s.now c × (entry + length s.now < 18446744073709551616) }
     ensures { record_means V.means result ≡ recorded entry (curve_in V.reading s.now c) }
 {
@@ -360,5 +394,31 @@ pub fn record<V: Value>(s: &[u8], c: ScalarCurve, entry: usize) -> CurveRecord<V
         ScalarCurve::None => CurveRecord::None,
         ScalarCurve::Constant(place) => CurveRecord::Constant(constant(s, place)),
         ScalarCurve::Samples(l, _) => CurveRecord::List(record_list(l, entry)),
+    }
+}
+
+#[cfg(test)]
+mod tests {
+    use super::{Number, Pair, Value};
+
+    // 1.5 and -0.5 in 1.3.12; the same bytes are read in the other formats too
+    #[test]
+    fn values_are_read(rt: HostRuntime) {
+        let s = [9u8, 0x00, 0x18, 0x00, 0xf8];
+        for (number, first) in [
+            (Number::Fix1_3_12, 1.5),
+            (Number::Fix1_10_5, 192.0),
+            (Number::Fix1_19_12, -32766.5),
+        ] {
+            assert_eq!(rt; <f64 as Value>::read(&s, 1, number), first);
+        }
+        for (number, first, second) in [
+            (Number::Fix1_3_12, 1.5, -0.5),
+            (Number::Fix1_10_5, 192.0, -64.0),
+        ] {
+            let pair = <Pair as Value>::read(&s, 1, number);
+            assert_eq!(rt; pair.first, first);
+            assert_eq!(rt; pair.second, second);
+        }
     }
 }

@@ -1,5 +1,5 @@
 -- What the code of this crate answers: an object's curves as they stand, and their records. Assumes nothing.
-use Rattle.std.specs.Prelude.{ℕ, ◌+◌, ◌*◌, ◌<◌, ◌≤◌, List, [], ◌∷◌, ◌≡◌, Float, get_or, Result, MatchResult}
+use Rattle.std.specs.Prelude.{ℕ, ◌+◌, ◌*◌, ◌<◌, ◌≤◌, List, [], ◌∷◌, ◌≡◌, get_or, Result, MatchResult}
 use Rattle.util.specs.declared.refusal.Refusal.{Refusal}
 use Rattle.util.specs.declared.refusal.Refusal.TheVariants.{NoSuchIndex}
 use Rattle.util.specs.Fixed.{Fix}
@@ -35,12 +35,14 @@ AxisIs a axis x = MatchResult x (λ c. (axis < 3) × (c ≡ get_or (a.x ∷ a.y 
 
 -- ---- the records that the calls answer
 
--- of a curve of numbers, of a scale, and of a rotation
-abbrev pub curve_means : Result (CurveRecord Float) Refusal → Verdict (Recorded Float)
-curve_means x = verdict (record_means (λ v. v)) x
+-- the record of a curve whose constant stands for itself
+module _ {A : Type 0} where
+  abbrev pub curve_means : Result (CurveRecord A) Refusal → Verdict (Recorded A)
+  curve_means x = verdict (record_means (λ v. v)) x
 
+-- .. of a scale, and of a rotation
 abbrev pub scale_means : Result (CurveRecord CodePair) Refusal → Verdict (Recorded Pair)
 scale_means x = verdict (record_means pair_means) x
 
 abbrev pub rotation_answer_means : Result (CurveRecord Mat3) Refusal → Verdict (Recorded Mat3)
-rotation_answer_means x = verdict (record_means (λ m. m)) x
+rotation_answer_means x = curve_means x

@@ -16,8 +16,8 @@ use animation::{
     Animation, AxisCurves, Referred, RotationCurve, TRSCurves, Tables, read_object, refer,
 };
 use curve::{
-    CurveRecord, Pair, SampleList, ScalarCurve, Value, pair_at, record, record_list, sample_list,
-    sample_scalar,
+    CurveRecord, MeantValue, Pair, SampleList, ScalarCurve, pair_at, record, record_list,
+    sample_list, sample_scalar,
 };
 use matrix::{Col3, Mat3, Mat4, identity, trs};
 use rotation::{basis_mat, pivot_mat};
@@ -49,7 +49,7 @@ fn axis_curve(a: AxisCurves, axis: usize) -> Result<ScalarCurve, Refusal>
 }
 
 // The record of an axis, in an entry that stands at `entry`.
-pub fn record_axis<V: Value>(
+pub fn record_axis<V: MeantValue>(
     s: &[u8],
     a: AxisCurves,
     axis: usize,

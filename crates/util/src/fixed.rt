@@ -45,14 +45,11 @@ fn number(x: u32, width: u32, fraction: u32) -> f64
     integer / ((1u32 << fraction) as f64)
 }
 
-// A format: a sign bit, whole bits and fraction bits, thirty-two at most.
-pub trait Format {
+// A format: a sign bit, whole bits and fraction bits, thirty-two at most. `Sized` lets `read` go by `FormatBits`, which every format has.
+pub trait Format: Sized {
     const WHOLE: u32;
 
     const FRACTION: u32;
-
-    // all bits, the sign's too
-    const BITS: u32;
 
     const LEAST: f64;
 
@@ -62,15 +59,11 @@ pub trait Format {
 
     ghost FRACTION: { ℕ };
 
-    ghost BITS: { ℕ };
-
     ghost LEAST: { Float };
 
     ghost GREATEST: { Float };
 
     ghost fits: { ltb (WHOLE + FRACTION) 32 ≡ true };
-
-    ghost all_bits: { BITS ≡ 1 + (WHOLE + FRACTION) };
 
     ghost is_least: { LEAST ≡ least (fix WHOLE FRACTION) };
 
@@ -90,8 +83,25 @@ pub trait Format {
     final fn read(x: u32) -> f64
         ensures { result ≡ fixed (fix WHOLE FRACTION) x }
     {
-        number(x, Self::BITS, Self::FRACTION)
+        number(x, <Self as FormatBits>::BITS, Self::FRACTION)
     }
+}
+
+// All bits of a format, the sign's too.
+pub trait FormatBits: Format {
+    const BITS: u32;
+
+    ghost BITS: { ℕ };
+
+    ghost all_bits: { BITS ≡ 1 + (Self.WHOLE + Self.FRACTION) };
+}
+
+impl<F: Format> FormatBits for F {
+    const BITS: u32 = 1 + F::WHOLE + F::FRACTION;
+
+    ghost BITS = { 1 + (F.WHOLE + F.FRACTION) };
+
+    ghost all_bits = { refl };
 }
 
 #[derive(Clone, Copy)]
@@ -99,14 +109,16 @@ pub struct Fix1_19_12;
 
 impl Fix1_19_12 {
     pub const SIGN: u32 = 1;
+
+    pub const BITS: u32 = Self::SIGN + Self::WHOLE + Self::FRACTION;
 }
+
+const _: () = prove!(Fix1_19_12::BITS == 32);
 
 impl Format for Fix1_19_12 {
     const WHOLE: u32 = 19;
 
     const FRACTION: u32 = 12;
-
-    const BITS: u32 = Self::SIGN + Self::WHOLE + Self::FRACTION;
 
     const LEAST: f64 = -524288.0;
 
@@ -116,15 +128,11 @@ impl Format for Fix1_19_12 {
 
     ghost FRACTION = { 12 };
 
-    ghost BITS = { 32 };
-
     ghost LEAST = { least fix1_19_12 };
 
     ghost GREATEST = { greatest fix1_19_12 };
 
     ghost fits = { refl };
-
-    ghost all_bits = { refl };
 
     ghost is_least = { refl };
 
@@ -136,14 +144,16 @@ pub struct Fix1_3_12;
 
 impl Fix1_3_12 {
     pub const SIGN: u32 = 1;
+
+    pub const BITS: u32 = Self::SIGN + Self::WHOLE + Self::FRACTION;
 }
+
+const _: () = prove!(Fix1_3_12::BITS == 16);
 
 impl Format for Fix1_3_12 {
     const WHOLE: u32 = 3;
 
     const FRACTION: u32 = 12;
-
-    const BITS: u32 = Self::SIGN + Self::WHOLE + Self::FRACTION;
 
     const LEAST: f64 = -8.0;
 
@@ -153,15 +163,11 @@ impl Format for Fix1_3_12 {
 
     ghost FRACTION = { 12 };
 
-    ghost BITS = { 16 };
-
     ghost LEAST = { least fix1_3_12 };
 
     ghost GREATEST = { greatest fix1_3_12 };
 
     ghost fits = { refl };
-
-    ghost all_bits = { refl };
 
     ghost is_least = { refl };
 
@@ -173,14 +179,16 @@ pub struct Fix1_10_5;
 
 impl Fix1_10_5 {
     pub const SIGN: u32 = 1;
+
+    pub const BITS: u32 = Self::SIGN + Self::WHOLE + Self::FRACTION;
 }
+
+const _: () = prove!(Fix1_10_5::BITS == 16);
 
 impl Format for Fix1_10_5 {
     const WHOLE: u32 = 10;
 
     const FRACTION: u32 = 5;
-
-    const BITS: u32 = Self::SIGN + Self::WHOLE + Self::FRACTION;
 
     const LEAST: f64 = -1024.0;
 
@@ -190,15 +198,11 @@ impl Format for Fix1_10_5 {
 
     ghost FRACTION = { 5 };
 
-    ghost BITS = { 16 };
-
     ghost LEAST = { least fix1_10_5 };
 
     ghost GREATEST = { greatest fix1_10_5 };
 
     ghost fits = { refl };
-
-    ghost all_bits = { refl };
 
     ghost is_least = { refl };
 
@@ -210,14 +214,16 @@ pub struct Fix1_0_12;
 
 impl Fix1_0_12 {
     pub const SIGN: u32 = 1;
+
+    pub const BITS: u32 = Self::SIGN + Self::WHOLE + Self::FRACTION;
 }
+
+const _: () = prove!(Fix1_0_12::BITS == 13);
 
 impl Format for Fix1_0_12 {
     const WHOLE: u32 = 0;
 
     const FRACTION: u32 = 12;
-
-    const BITS: u32 = Self::SIGN + Self::WHOLE + Self::FRACTION;
 
     const LEAST: f64 = -1.0;
 
@@ -227,17 +233,16 @@ impl Format for Fix1_0_12 {
 
     ghost FRACTION = { 12 };
 
-    ghost BITS = { 13 };
-
     ghost LEAST = { least fix1_0_12 };
 
     ghost GREATEST = { greatest fix1_0_12 };
 
     ghost fits = { refl };
 
-    ghost all_bits = { refl };
-
     ghost is_least = { refl };
 
     ghost is_greatest = { refl };
 }
+
+#[cfg(test)]
+mod tests;

@@ -98,8 +98,8 @@ pub fn put_count(w: Result<usize, Refusal>, out: &mut [u64; 1]) -> u32
     }
 }
 
-// What a curve has for a constant, as N floats.
-pub trait Floats<const N: usize> {
+// What a curve has for a constant, as N floats, said by what it stands for.
+pub trait MeantFloats<const N: usize> {
     // what it stands for, and its floats
     ghost Meant: { Type 0 };
 
@@ -111,7 +111,15 @@ pub trait Floats<const N: usize> {
         ensures { out.new ≡ sets out.old 0 (floats (means self)) };
 }
 
-impl Floats<1> for f64 {
+// .. and said by the value itself, as with curve's `Value`.
+pub trait Floats<const N: usize> {
+    ghost floats: { Self → List Float };
+
+    fn put(self, out: &mut [f64; N])
+        ensures { out.new ≡ sets out.old 0 (floats self) };
+}
+
+impl MeantFloats<1> for f64 {
     ghost Meant = { Float };
 
     ghost means = { λ v. v };
@@ -124,7 +132,7 @@ impl Floats<1> for f64 {
 }
 
 // The two numbers of a scale's value.
-impl Floats<2> for Pair {
+impl MeantFloats<2> for Pair {
     ghost Meant = { spec.Pair };
 
     ghost means = { pair_means };
@@ -138,7 +146,7 @@ impl Floats<2> for Pair {
 }
 
 // Column by column.
-impl Floats<9> for Mat3 {
+impl MeantFloats<9> for Mat3 {
     ghost Meant = { mat3.Mat3 };
 
     ghost means = { λ m. m };
@@ -158,6 +166,30 @@ impl Floats<9> for Mat3 {
     }
 }
 
+impl Floats<1> for f64 {
+    ghost floats = { one_float };
+
+    fn put(self, out: &mut [f64; 1]) {
+        <f64 as MeantFloats<1>>::put(self, out);
+    }
+}
+
+impl Floats<2> for Pair {
+    ghost floats = { λ v. two_floats (pair_means v) };
+
+    fn put(self, out: &mut [f64; 2]) {
+        <Pair as MeantFloats<2>>::put(self, out);
+    }
+}
+
+impl Floats<9> for Mat3 {
+    ghost floats = { nine_floats };
+
+    fn put(self, out: &mut [f64; 9]) {
+        <Mat3 as MeantFloats<9>>::put(self, out);
+    }
+}
+
 // Where a curve's list stands.
 fn put_samples(r: ListRecord, out: &mut [u64; CURVE_WORDS])
     ensures { out.new ≡ sets out.old 0 (curve_words {A = Float} (listed (list_record_means r) r.list.length)) }
@@ -174,7 +206,7 @@ fn put_samples(r: ListRecord, out: &mut [u64; CURVE_WORDS])
 }
 
 // A curve's record: its words, and the floats of its constant.
-fn put_whole<T: Floats<N>, const N: usize>(
+fn put_whole<T: MeantFloats<N>, const N: usize>(
     r: CurveRecord<T>,
     out: &mut [u64; CURVE_WORDS],
     value: &mut [f64; N],
@@ -194,7 +226,7 @@ fn put_whole<T: Floats<N>, const N: usize>(
 }
 
 // The record of a curve.
-pub fn put_curve<T: Floats<N>, const N: usize>(
+pub fn put_curve<T: MeantFloats<N>, const N: usize>(
     c: Result<CurveRecord<T>, Refusal>,
     out: &mut [u64; CURVE_WORDS],
     value: &mut [f64; N],
@@ -217,7 +249,7 @@ pub fn put_value(a: Result<Pair, Refusal>, out: &mut [f64; 2]) -> u32
     match a {
         Err(e) => e.into(),
         Ok(v) => {
-            v.put(out);
+            <Pair as MeantFloats<2>>::put(v, out);
             0
         }
     }
@@ -341,5 +373,44 @@ pub fn put_objects(p: Result<usize, Refusal>, out: &mut [u64; 1]) -> u32
             out[0] = count as u64;
             0
         }
+    }
+}
+
+#[cfg(test)]
+mod tests {
+    use super::Floats;
+    use curve::Pair;
+    use matrix::{Col3, Mat3};
+
+    #[test]
+    fn floats_are_put(rt: HostRuntime) {
+        let mut one = [0.0];
+        Floats::put(-1.5, &mut one);
+        assert_eq!(rt; one, [-1.5]);
+        let mut two = [0.0, 0.0];
+        let pair = Pair {
+            first: 1.5,
+            second: -0.5,
+        };
+        Floats::put(pair, &mut two);
+        assert_eq!(rt; two, [1.5, -0.5]);
+        let mut nine = [0.0; 9];
+        let c0 = Col3 {
+            x: 1.0,
+            y: 2.0,
+            z: 3.0,
+        };
+        let c1 = Col3 {
+            x: 4.0,
+            y: 5.0,
+            z: 6.0,
+        };
+        let c2 = Col3 {
+            x: 7.0,
+            y: 8.0,
+            z: 9.0,
+        };
+        Floats::put(Mat3 { c0, c1, c2 }, &mut nine);
+        assert_eq!(rt; nine, [1.0, 2.0, 3.0, 4.0, 5.0, 6.0, 7.0, 8.0, 9.0]);
     }
 }

@@ -14,4 +14,4 @@ returns-in-Constant g c = rw (c.in-Constant.is, c.constant.ensures)
 pub returns-in-Samples : goal.returns-in-Samples
 returns-in-Samples g c =
     let a = c.args in
-    rw c.in-Samples.is (list_recorded _ _ a.entry _ c.record_list.ensures.0 c.record_list.ensures.1 (value_count g.V.Value.reading a.s.now c.in-Samples.l c.in-Samples.field-1))
+    rw c.in-Samples.is (list_recorded _ _ a.entry _ c.record_list.ensures.0 c.record_list.ensures.1 (value_count g.V.MeantValue.reading a.s.now c.in-Samples.l c.in-Samples.field-1))
